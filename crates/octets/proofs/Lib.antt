@@ -1,0 +1,4 @@
+pub mod Lists
+pub mod Numbers
+pub mod Boxes
+pub mod Stores

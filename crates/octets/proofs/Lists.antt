@@ -1,0 +1,84 @@
+-- Laws of lists that the library does not have: cancelling fronts of equal length, sums, and lists printed element by element.
+use mathlib.Core.Path.{_≡_, refl, sym, ap, _∙_}
+use mathlib.Core.List.{List, [], _∷_, _++_, map, flatten, flatMap, append-assoc}
+use Prim.Native.Nat.{ℕ, _+_, _*_, _≤_, _<_}
+use native.Mathlib.Nat.{zero-mul, suc-mul}
+use native.Mathlib.Numerals.{add-one}
+use native.Mathlib.Omega.{arith}
+use lib.ListN.{length, length-append, take, drop, getD, take-append-drop}
+use lib.Seq.{take-suc}
+use Rattle.octets.specs.Numbers.{total}
+
+-- ---- fronts of equal length
+
+pub cancel : {A : Type 0} (a b : List A) {x y : List A} → length a ≡ length b → a ++ x ≡ b ++ y → (a ≡ b) × (x ≡ y)
+cancel [] [] l e = (refl, e)
+cancel [] (b ∷ t) l e = absurd (omega arith)
+cancel (a ∷ s) [] l e = absurd (omega arith)
+cancel (a ∷ s) (b ∷ t) {x} {y} l e =
+    let h : a ≡ b = cc in
+    let e′ : s ++ x ≡ t ++ y = cc in
+    let r = cancel s t (omega arith) e′ in
+    (cc, r .1)
+
+-- ---- sums
+
+pub total-append : (x y : List ℕ) → total (x ++ y) ≡ total x + total y
+total-append [] y = omega arith
+total-append (a ∷ x) y = omega (arith, total-append x y)
+
+pub total-step : (l : List ℕ) (i : ℕ) → i < length l → total (take (i + 1) l) ≡ total (take i l) + getD l i 0
+total-step l i h = rw (add-one, take-suc l i 0) (omega (arith, total-append (take i l) (getD l i 0 ∷ [])))
+
+pub total-take : (l : List ℕ) (i : ℕ) → total (take i l) ≤ total l
+total-take l i = omega (arith, total-append (take i l) (drop i l), ap total (take-append-drop i l))
+
+-- ---- lists of lists
+
+pub length-flatten : (l : List (List ℕ)) → length (flatten l) ≡ total (map length l)
+unfolding flatten
+length-flatten [] = refl
+length-flatten (x ∷ l) = length-append x (flatten l) ∙ ap (λ (n : ℕ). length x + n) (length-flatten l)
+
+pub flatten-append : (l m : List (List ℕ)) → flatten (l ++ m) ≡ flatten l ++ flatten m
+unfolding flatten
+flatten-append [] m = refl
+flatten-append (x ∷ l) m = ap (λ (r : List ℕ). x ++ r) (flatten-append l m) ∙ sym (append-assoc x (flatten l) (flatten m))
+
+-- lists of equal lengths are told apart by what they join to
+pub flatten-inj : (l m : List (List ℕ)) → map length l ≡ map length m → flatten l ≡ flatten m → l ≡ m
+unfolding flatten
+flatten-inj [] [] n e = refl
+flatten-inj [] (b ∷ m) n e = absurd (omega (arith, ap length n))
+flatten-inj (a ∷ l) [] n e = absurd (omega (arith, ap length n))
+flatten-inj (a ∷ l) (b ∷ m) n e =
+    let h : length a ≡ length b = cc in
+    let t : map length l ≡ map length m = cc in
+    let r = cancel a b h e in
+    let w = flatten-inj l m t (r .1) in
+    λ i. r .0 i ∷ w i
+
+-- ---- elements printed one after the other, each in k bytes
+
+module _ {A : Type 0} (print : A → List ℕ) where
+  pub flatMap-append : (l m : List A) → flatMap print (l ++ m) ≡ flatMap print l ++ flatMap print m
+  unfolding flatMap
+  flatMap-append [] m = refl
+  flatMap-append (a ∷ l) m = ap (λ (r : List ℕ). print a ++ r) (flatMap-append l m) ∙ sym (append-assoc (print a) (flatMap print l) (flatMap print m))
+
+  module _ (k : ℕ) (wide : (a : A) → length (print a) ≡ k) where
+    pub length-flatMap : (l : List A) → length (flatMap print l) ≡ length l * k
+    unfolding flatMap
+    length-flatMap [] = sym (zero-mul k)
+    length-flatMap (a ∷ l) = omega (arith, length-append (print a) (flatMap print l), wide a, length-flatMap l, suc-mul (length l) k)
+
+    -- what is read off each print is the same on both sides
+    pub flatMap-inj : {B : Type 0} (read : A → B) → 1 ≤ k → ((a b : A) → print a ≡ print b → read a ≡ read b) → (l m : List A) → flatMap print l ≡ flatMap print m → map read l ≡ map read m
+    unfolding flatMap
+    flatMap-inj read h same [] [] e = refl
+    flatMap-inj read h same [] (b ∷ m) e = absurd (omega (arith, wide b, ap length e, length-append (print b) (flatMap print m)))
+    flatMap-inj read h same (a ∷ l) [] e = absurd (omega (arith, wide a, ap length e, length-append (print a) (flatMap print l)))
+    flatMap-inj read h same (a ∷ l) (b ∷ m) e =
+        let r = cancel (print a) (print b) (wide a ∙ sym (wide b)) e in
+        let w = flatMap-inj read h same l m (r .1) in
+        λ i. same a b (r .0) i ∷ w i

@@ -1,0 +1,25 @@
+-- Numbers and texts as bytes.
+use mathlib.Core.List.{List, [], _∷_, _++_}
+use Prim.Native.Nat.{ℕ, zero, suc, _+_, _*_, _/_, _%_, _^_}
+use Prim.Native.Char.{code}
+use Prim.Native.String.{String, [] as ε, _∷_ as _◂_}
+
+infixr 60 _‖_
+-- one list after the other: the library's append, grouped to the right
+abbrev pub _‖_ : {A : Type 0} → List A → List A → List A
+a ‖ b = a ++ b
+
+-- the number n in k bytes, the highest first
+abbrev pub be : ℕ → ℕ → List ℕ
+be zero n = []
+be (suc k) n = n / 2 ^ (8 * k) % 256 ∷ be k n
+
+-- a text of the ASCII set, a byte a character
+abbrev pub text : String → List ℕ
+text ε = []
+text (c ◂ s) = code c ∷ text s
+
+-- the sum of a list of numbers
+abbrev pub total : List ℕ → ℕ
+total [] = 0
+total (n ∷ l) = n + total l

@@ -1,0 +1,62 @@
+-- 14496-12, 8.11.3: item location box; 23008-12, 6.6.2.3: the grids' descriptors, which lie in idat.
+use mathlib.Core.Bool.{Bool, _||_, cond}
+use mathlib.Core.List.{List, [], _∷_, flatMap}
+use Prim.Native.Nat.{ℕ, suc, _+_, _*_, _-_}
+use lib.Dec.{ltb}
+use lib.ListN.{take, drop, length}
+use Rattle.octets.specs.Numbers.{_‖_, be}
+use Rattle.octets.specs.Boxes.{Box, full}
+use Rattle.panel.specs.Panel.{Panel}
+use Rattle.panel.specs.declared.GridDims.{GridDims}
+use Rattle.panel.specs.Items.{Form, tile-count, colour-grid, alpha-tile, alpha-grid, exif-id, payloads}
+
+-- ---- the descriptor of a grid: version 0, flags, rows − 1, columns − 1, and the size in 16 bits, or with flag 2 in 32
+
+abbrev pub descriptor-of : Bool → GridDims → List ℕ
+descriptor-of wide d =
+    let k = cond {A = ℕ} wide 4 2 in
+    be 1 0 ‖ be 1 (cond wide 2 0) ‖ be 1 (d .rows - 1) ‖ be 1 (d .cols - 1) ‖ be k (d .«full_w») ‖ be k (d .«full_h»)
+
+abbrev pub descriptor : GridDims → List ℕ
+descriptor d = descriptor-of (ltb 65535 (d .«full_w») || ltb 65535 (d .«full_h»)) d
+
+-- ---- where an item's payload lies: at an offset of the file (method 0) or of idat's body (method 1)
+
+pub record Extent : Type 0 where
+  pub offset : ℕ
+  pub size : ℕ
+
+pub record Location : Type 0 where
+  pub id : ℕ
+  pub method : ℕ
+  pub extent : Extent
+
+-- payloads that lie back to back from `at` on
+abbrev pub extents : ℕ → List (List ℕ) → List Extent
+extents at [] = []
+extents at (x ∷ l) = record { offset = at; size = length x } ∷ extents (at + length x) l
+
+-- items with ids from `id` on
+abbrev pub located : ℕ → ℕ → List Extent → List Location
+located id method [] = []
+located id method (e ∷ l) = record { id = id; method = method; extent = e } ∷ located (suc id) method l
+
+-- the items of a panel by rising id, where mdat's body begins at `at`
+abbrev pub locations : ℕ → Panel → List Location
+locations at p =
+    let t = tile-count p in
+    let n = length (descriptor (p .dims)) in
+    let e = extents at (payloads p) in
+    located 1 0 (take t e)
+    ‖ located (colour-grid p) 1 (record { offset = 0; size = n } ∷ [])
+    ‖ located (alpha-tile p) 0 (take t (drop t e))
+    ‖ located (alpha-grid p) 1 (record { offset = n; size = n } ∷ [])
+    ‖ located (exif-id p) 0 (drop (2 * t) e)
+
+-- id, method, data reference 0, one extent: its offset and its length
+abbrev pub entry : Form → Location → List ℕ
+entry f l = be (f .id) (l .id) ‖ be 2 (l .method) ‖ be 2 0 ‖ be 2 1 ‖ be 4 (l .extent .offset) ‖ be 4 (l .extent .size)
+
+-- offsets and lengths of 4 bytes, no base offset and no index; then the entries
+abbrev pub iloc : Form → List Location → Box
+iloc f l = full "iloc" (1 + f .step) 0 (be 1 0x44 ‖ be 1 0x00 ‖ be (f .count) (length l) ‖ flatMap (entry f) l)

@@ -1,0 +1,14 @@
+pub mod Types
+pub mod Panel
+pub mod Of
+pub mod Items
+pub mod Iloc
+pub mod Iinf
+pub mod Iref
+pub mod Ipco
+pub mod Ipma
+pub mod File
+pub mod Agreement
+pub mod Widths
+pub mod Refusal
+pub mod Answer

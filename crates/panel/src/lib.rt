@@ -1,0 +1,61 @@
+// The types of a panel and of what a call answers.
+//
+// specs/ holds the definition of the file, box by box, and proofs/ the theorem that one file is one panel. Byte parts (decoder
+// configuration records, samples, ICC profiles, Exif, XMP, tone map) are lent as slices beside a `Panel`.
+
+pub mod color;
+pub mod fmt;
+pub mod gain_map;
+pub mod metadata;
+
+use crate::color::ColorMetadata;
+use crate::fmt::BitDepth;
+use crate::gain_map::MaybeGainMap;
+use crate::metadata::Metadata;
+
+// An item's id. Not a property's position: neither is taken for the other.
+pub struct ItemId(pub u16);
+
+// A property's position in ipco, counted from 1.
+pub struct PropertyPosition(pub u8);
+
+// The tile grid: its columns and rows, the size of a tile, and the size of the whole picture.
+pub struct GridDims {
+    pub cols: u32,
+    pub rows: u32,
+    pub tile_w: u32,
+    pub tile_h: u32,
+    pub full_w: u32,
+    pub full_h: u32,
+}
+
+// The numbers of a panel.
+pub struct Panel {
+    pub dims: GridDims,
+    pub bit_depth: BitDepth,
+    pub color_meta: ColorMetadata,
+    pub metadata: Metadata,
+    pub gain_map: MaybeGainMap,
+}
+
+// Why a call refuses, in the order of the checks. The definition `number` gives each its number, from 1 to 6.
+pub enum Refusal {
+    // 1: rows or columns are 0 or above 256.
+    GridSide,
+    // 2: a list of lengths has not exactly rows × columns entries.
+    TileCount,
+    // 3: the lengths do not sum to the bytes lent.
+    SampleLengths,
+    // 4: the last item id is above 65,535.
+    ItemIds,
+    // 5: the file would exceed 4,294,967,295 bytes.
+    FileLength,
+    // 6: the output is shorter than the file.
+    OutputLength,
+}
+
+// What a call answers: the file's length, or why it refuses.
+pub enum Answer {
+    Length(u64),
+    Refused(Refusal),
+}
