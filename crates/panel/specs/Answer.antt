@@ -62,9 +62,9 @@ pub record Result : Type 0 where
   pub answer : Outcome
   pub output : List ℕ
 
-pub Promise : Form → (Panel → List ℕ → Result) → Type 0
+abbrev pub Promise : Form → (Panel → List ℕ → Result) → Type 0
 Promise f write = (p : Panel) → Fits p → (old : List ℕ) → Promised f p old (write p old .answer) (write p old .output)
 
 -- of the length call
-pub Length-promise : Form → (Panel → Outcome) → Type 0
+abbrev pub Length-promise : Form → (Panel → Outcome) → Type 0
 Length-promise f measure = (p : Panel) → Fits p → measure p ≡ length-answer f p

@@ -1,0 +1,46 @@
+-- The theorem on equal files is not empty: panels that it speaks of, a pair that agrees without being equal, and a pair with other bytes.
+use mathlib.Core.Path.{_≡_, refl, ap}
+use mathlib.Core.List.{List, flatten, flatMap}
+use Prim.Native.Nat.{ℕ}
+use native.Mathlib.Omega.{arith}
+use lib.ListN.{length, getD}
+use Rattle.octets.specs.Boxes.{boxes}
+use Rattle.panel.specs.Panel.{Panel}
+use Rattle.panel.specs.Agreement.{norm, Agree}
+use Rattle.panel.specs.Widths.{Fits}
+use Rattle.panel.specs.Items.{ordinary, listed}
+use Rattle.panel.specs.File.{file}
+use Rattle.panel.specs.Refusal.{refusal}
+use Rattle.panel.proofs.Unique.{same-files}
+use Rattle.trials.specs.Panels.{P, P-stated, P-other}
+
+pub P-fits : Fits P
+P-fits = record { tile-w = omega arith; tile-h = omega arith; full-w = omega arith; full-h = omega arith; light = tt; gain = tt }
+
+pub P-accepted : refusal ordinary P ≡ 0
+unfolding boxes flatten flatMap file refusal
+P-accepted = refl
+
+pub P-other-fits : Fits P-other
+P-other-fits = record { tile-w = omega arith; tile-h = omega arith; full-w = omega arith; full-h = omega arith; light = tt; gain = tt }
+
+pub P-other-accepted : refusal ordinary P-other ≡ 0
+unfolding boxes flatten flatMap file refusal
+P-other-accepted = refl
+
+-- unstated and unspecified full-range colour
+pub stated-agrees : Agree P P-stated
+unfolding norm
+stated-agrees = record { same = refl }
+
+pub stated-differs : P ≡ P-stated → ⊥
+stated-differs e = let z : _≡_ {A = ℕ} 0 1 = ap (λ (p : Panel). length (listed (p .colour .cicp))) e in omega arith
+
+-- one sample byte
+pub other-bytes : file ordinary P ≡ file ordinary P-other → ⊥
+unfolding boxes flatten flatMap file
+other-bytes e = let z : _≡_ {A = ℕ} 0xAA 0xAC = ap (λ (l : List ℕ). getD l 554 0) e in omega arith
+
+-- so these two do not agree
+pub other-disagrees : Agree P P-other → ⊥
+other-disagrees h = other-bytes (same-files ordinary P P-other P-fits P-other-fits P-accepted P-other-accepted .1 h)

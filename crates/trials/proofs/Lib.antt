@@ -1,0 +1,3 @@
+pub mod Trials
+pub mod Promises
+pub mod Examples

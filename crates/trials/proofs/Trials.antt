@@ -1,0 +1,13 @@
+-- Every trial of the table holds, by computation.
+use mathlib.Core.List.{flatten, flatMap}
+use lib.Dec.{T}
+use Rattle.octets.specs.Boxes.{boxes}
+use Rattle.panel.specs.File.{file}
+use Rattle.panel.specs.Refusal.{refusal-in}
+use Rattle.panel.specs.Answer.{write-answer}
+use Rattle.trials.specs.Trials.{all-hold}
+use Rattle.trials.specs.Table.{table}
+
+pub trials : T (all-hold table)
+unfolding boxes flatten flatMap file refusal-in write-answer
+trials = tt

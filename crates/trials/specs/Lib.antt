@@ -1,0 +1,4 @@
+pub mod Panels
+pub mod Trials
+pub mod Table
+pub mod Wrong

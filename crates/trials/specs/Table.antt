@@ -1,0 +1,96 @@
+-- Document 01's lettered trials, (a) to (k), in one table.
+use mathlib.Core.List.{List, [], _∷_}
+use Prim.Native.Nat.{ℕ}
+use Rattle.octets.specs.Numbers.{_‖_, be, text}
+use Rattle.panel.specs.Answer.{made, refused}
+use Rattle.panel.specs.Panel.{Panel}
+use Rattle.trials.specs.Panels
+use Rattle.trials.specs.Trials.{Shown, box-at, bytes-at, item, payload, property, associated, Trial}
+
+-- exactly enough room
+abbrev fits : Panel → ℕ → List Shown → Trial
+fits p n l = record { panel = p; room = n; answer = made n; shows = l }
+
+abbrev refuses : Panel → ℕ → ℕ → Trial
+refuses p room k = record { panel = p; room = room; answer = refused k; shows = [] }
+
+-- (a) P: the brand, the twelve boxes, and the two samples
+abbrev pub a : Trial
+a =
+    fits Panels.P 556
+    (bytes-at 8 (text "heic")
+    ∷ box-at "ftyp" 0 28
+    ∷ box-at "meta" 28 518
+    ∷ box-at "hdlr" 40 33
+    ∷ box-at "pitm" 73 14
+    ∷ box-at "iloc" 87 80
+    ∷ box-at "iinf" 167 98
+    ∷ box-at "iref" 265 54
+    ∷ box-at "iprp" 319 203
+    ∷ box-at "ipco" 327 156
+    ∷ box-at "ipma" 483 39
+    ∷ box-at "idat" 522 24
+    ∷ box-at "mdat" 546 10
+    ∷ bytes-at 554 (0xAA ∷ [])
+    ∷ bytes-at 555 (0xBB ∷ [])
+    ∷ [])
+
+-- (b) P, output 555 bytes
+abbrev pub b : Trial
+b = refuses Panels.P 555 6
+
+-- (c) P, full_w 65,535: both descriptors in 16 bits
+abbrev pub c : Trial
+c =
+    fits (Panels.P-wide 65535) 556
+    (box-at "idat" 522 24
+    ∷ bytes-at 530 (0x00 ∷ 0x00 ∷ 0x00 ∷ 0x00 ∷ 0xFF ∷ 0xFF ∷ 0x00 ∷ 0x40 ∷ [])
+    ∷ bytes-at 538 (0x00 ∷ 0x00 ∷ 0x00 ∷ 0x00 ∷ 0xFF ∷ 0xFF ∷ 0x00 ∷ 0x40 ∷ [])
+    ∷ [])
+
+-- (d) P, full_w 65,536: both in 32 bits
+abbrev pub d : Trial
+d =
+    fits (Panels.P-wide 65536) 564
+    (box-at "idat" 522 32
+    ∷ bytes-at 530 (0x00 ∷ 0x02 ∷ 0x00 ∷ 0x00 ∷ 0x00 ∷ 0x01 ∷ 0x00 ∷ 0x00 ∷ 0x00 ∷ 0x00 ∷ 0x00 ∷ 0x40 ∷ [])
+    ∷ bytes-at 542 (0x00 ∷ 0x02 ∷ 0x00 ∷ 0x00 ∷ 0x00 ∷ 0x01 ∷ 0x00 ∷ 0x00 ∷ 0x00 ∷ 0x00 ∷ 0x00 ∷ 0x40 ∷ [])
+    ∷ [])
+
+-- (e) rows 256, columns 1: the row byte FF
+abbrev pub e : Trial
+e = fits (Panels.P-rows 256) 23761 (box-at "idat" 23217 24 ∷ bytes-at 23225 (0x00 ∷ 0x00 ∷ 0xFF ∷ 0x00 ∷ 0x00 ∷ 0x40 ∷ 0x00 ∷ 0x40 ∷ []) ∷ [])
+
+-- (f) rows 257
+abbrev pub f : Trial
+f = refuses (Panels.P-rows 257) 4294967295 1
+
+-- (g) P, Transpose
+abbrev pub g : Trial
+g = fits Panels.P-transpose 578 (property 9 "irot" (0x03 ∷ []) ∷ property 10 "imir" (0x00 ∷ []) ∷ associated 2 (0x03 ∷ 0x84 ∷ 0x05 ∷ 0x89 ∷ 0x8A ∷ []) ∷ [])
+
+-- (h) P, Exif empty
+abbrev pub h : Trial
+h = fits Panels.P-exif 611 (item 5 "Exif" ∷ payload 5 (0x00 ∷ 0x00 ∷ 0x00 ∷ 0x00 ∷ []) ∷ [])
+
+-- (i) P, light 1000 and 400
+abbrev pub i : Trial
+i = fits Panels.P-light 569 (property 9 "clli" (0x03 ∷ 0xE8 ∷ 0x01 ∷ 0x90 ∷ []) ∷ [])
+
+-- (j) P, colr
+abbrev pub j : Trial
+j = fits Panels.P 556 (property 4 "colr" (0x6E ∷ 0x63 ∷ 0x6C ∷ 0x78 ∷ 0x00 ∷ 0x02 ∷ 0x00 ∷ 0x02 ∷ 0x00 ∷ 0x02 ∷ 0x80 ∷ []) ∷ [])
+
+-- (k) P, gain with tone map: the ids, and the group with the tone map and the colour grid
+abbrev pub k : Trial
+k =
+    fits Panels.P-tone 933
+    (item 5 "hvc1"
+    ∷ item 6 "mime"
+    ∷ item 7 "tmap"
+    ∷ box-at "altr" 871 28
+    ∷ bytes-at 883 (be 4 8 ‖ be 4 2 ‖ be 4 7 ‖ be 4 2)
+    ∷ [])
+
+abbrev pub table : List Trial
+table = a ∷ b ∷ c ∷ d ∷ e ∷ f ∷ g ∷ h ∷ i ∷ j ∷ k ∷ []
