@@ -7,7 +7,7 @@ use lib.Dec.{T, ltb, eqb, nltb→le, nleb→lt, eqb→eq}
 use lib.ListN.{length}
 use Rattle.octets.specs.Numbers.{total}
 use Rattle.panel.specs.Panel.{Panel}
-use Rattle.panel.specs.Items.{Form, tile-count}
+use Rattle.panel.specs.Items.{Form, shape}
 use Rattle.panel.specs.File.{file}
 use Rattle.panel.specs.Refusal.{bad-side, bad-grid, differ, bad-counts, bad-sum, last-id, bad-id, too-long, refusal}
 
@@ -16,11 +16,11 @@ pub record Accepted (f : Form) (p : Panel) : Type 0 where
   pub rows-most : p .dims .rows ≤ 256
   pub cols : 1 ≤ p .dims .cols
   pub cols-most : p .dims .cols ≤ 256
-  pub count : tile-count p ≡ p .dims .rows * p .dims .cols
+  pub count : shape p .tiles ≡ p .dims .rows * p .dims .cols
   pub alpha-count : length (p .alpha .lengths) ≡ p .dims .rows * p .dims .cols
   pub sum : total (p .tiles .lengths) ≡ length (p .tiles .bytes)
   pub alpha-sum : total (p .alpha .lengths) ≡ length (p .alpha .bytes)
-  pub last : last-id p < 2 ^ (8 * f .id)
+  pub last : last-id (shape p) < 2 ^ (8 * f .id)
   pub size : length (file f p) < 2 ^ 32
 
 passed : (k : ℕ) (b : Bool) {r : ℕ} → _≡_ {A = ℕ} (elim b [ true ↦ suc k | false ↦ r ]) 0 → T (not b) × (r ≡ 0)
@@ -44,24 +44,24 @@ accepted f p e =
     let d = p .dims in
     let n = d .rows * d .cols in
     let c1 = passed 0 (bad-grid (d .rows) (d .cols)) e in
-    let c2 = passed 1 (bad-counts n (tile-count p) (length (p .alpha .lengths))) (c1 .1) in
+    let c2 = passed 1 (bad-counts n (shape p .tiles) (length (p .alpha .lengths))) (c1 .1) in
     let c3 = passed 2 (bad-sum (p .tiles) || bad-sum (p .alpha)) (c2 .1) in
-    let c4 = passed 3 (bad-id (f .id) (last-id p)) (c3 .1) in
+    let c4 = passed 3 (bad-id (f .id) (last-id (shape p))) (c3 .1) in
     let c5 = passed 4 (too-long (length (file f p))) (c4 .1) in
     let sides = neither (bad-side (d .rows)) (bad-side (d .cols)) (c1 .0) in
     let r = neither (ltb (d .rows) 1) (ltb 256 (d .rows)) (sides .0) in
     let k = neither (ltb (d .cols) 1) (ltb 256 (d .cols)) (sides .1) in
-    let counts = neither (differ (tile-count p) n) (differ (length (p .alpha .lengths)) n) (c2 .0) in
+    let counts = neither (differ (shape p .tiles) n) (differ (length (p .alpha .lengths)) n) (c2 .0) in
     let sums = neither (bad-sum (p .tiles)) (bad-sum (p .alpha)) (c3 .0) in
     record {
       rows = nltb→le (d .rows) 1 (r .0);
       rows-most = nltb→le 256 (d .rows) (r .1);
       cols = nltb→le (d .cols) 1 (k .0);
       cols-most = nltb→le 256 (d .cols) (k .1);
-      count = same (tile-count p) n (counts .0);
+      count = same (shape p .tiles) n (counts .0);
       alpha-count = same (length (p .alpha .lengths)) n (counts .1);
       sum = same (total (p .tiles .lengths)) (length (p .tiles .bytes)) (sums .0);
       alpha-sum = same (total (p .alpha .lengths)) (length (p .alpha .bytes)) (sums .1);
-      last = nleb→lt (2 ^ (8 * f .id)) (last-id p) (c4 .0);
+      last = nleb→lt (2 ^ (8 * f .id)) (last-id (shape p)) (c4 .0);
       size = omega (arith, nltb→le 4294967295 (length (file f p)) (c5 .0));
     }

@@ -3,14 +3,13 @@ use mathlib.Core.Path.{_≡_, refl, ap, _∙_}
 use mathlib.Core.Bool.{_||_}
 use mathlib.Core.Option.{Option, none, some}
 use mathlib.Core.List.{List, [], _∷_}
-use Prim.Native.Nat.{ℕ, _+_, _*_}
+use Prim.Native.Nat.{ℕ, _*_}
 use lib.ListN.{length}
-use Rattle.octets.specs.Numbers.{_‖_}
 use Rattle.panel.specs.Panel.{Colour, Gain, Panel}
 use Rattle.panel.specs.Agreement.{stated, filled, shown, norm-gain, norm}
-use Rattle.panel.specs.Items.{Form, alpha-grid, exif-payload, gain-payloads}
+use Rattle.panel.specs.Items.{Form, has, tone-of, shape}
 use Rattle.panel.specs.File.{file}
-use Rattle.panel.specs.Refusal.{bad-grid, bad-counts, bad-sum, bad-id, too-long, check, first, refusal}
+use Rattle.panel.specs.Refusal.{bad-grid, bad-counts, bad-sum, last-id, bad-id, too-long, check, first, refusal}
 use Rattle.panel.specs.declared.color.Cicp.{Cicp}
 
 -- p with another colour and another gain map
@@ -64,20 +63,31 @@ module _ (f : Form) (p : Panel) where
 
 -- ---- the refusal
 
-payloads-norm : (g : Option Gain) → gain-payloads g ≡ gain-payloads (norm-gain g)
-payloads-norm none = refl
-payloads-norm (some g) = refl
+gain-kept : (g : Option Gain) → has g ≡ has (norm-gain g)
+gain-kept none = refl
+gain-kept (some g) = refl
+
+tone-kept : (g : Option Gain) → has (tone-of g) ≡ has (tone-of (norm-gain g))
+tone-kept none = refl
+tone-kept (some g) = refl
+
+pub shape-norm : (p : Panel) → shape p ≡ shape (norm p)
+unfolding norm
+shape-norm p =
+    let g = gain-kept (p .gain) in
+    let t = tone-kept (p .gain) in
+    λ i. record { tiles = length (p .tiles .lengths); exif = has (p .metadata .exif); gain = g i; tone = t i }
 
 pub refusal-norm : (f : Form) (p : Panel) → refusal f p ≡ refusal f (norm p)
 unfolding refusal norm
 refusal-norm f p =
-    let n : length (file f p) ≡ length (file f (norm p)) = ap length (file-norm f p) in
-    let g = payloads-norm (p .gain) in
+    let n = ap length (file-norm f p) in
+    let s = shape-norm p in
     λ i.
     first (check 1 (λ _. bad-grid (p .dims .rows) (p .dims .cols))
     ∷ check 2 (λ _. bad-counts (p .dims .rows * p .dims .cols) (length (p .tiles .lengths)) (length (p .alpha .lengths)))
     ∷ check 3 (λ _. bad-sum (p .tiles) || bad-sum (p .alpha))
-    ∷ check 4 (λ _. bad-id (f .id) (alpha-grid p + length (exif-payload (p .metadata .exif) ‖ g i)))
+    ∷ check 4 (λ _. bad-id (f .id) (last-id (s i)))
     ∷ check 5 (λ _. too-long (n i))
     ∷ [])
 

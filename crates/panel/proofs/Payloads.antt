@@ -10,7 +10,7 @@ use Rattle.octets.specs.Numbers.{_‖_, be, total}
 use Rattle.octets.proofs.Lists.{cancel, length-flatten, flatten-inj, flatMap-inj}
 use Rattle.octets.proofs.Numbers.{length-be, be-inj, skip-be}
 use Rattle.panel.specs.Panel.{Tiles, Panel}
-use Rattle.panel.specs.Items.{Form, tile-count, colour-grid, alpha-tile, alpha-grid, exif-id, samples, other-payloads, payloads}
+use Rattle.panel.specs.Items.{Form, shape, colour-grid, alpha-tile, alpha-grid, exif-id, samples, other-payloads, payloads}
 use Rattle.panel.specs.Iloc.{descriptor, Extent, Location, extents, located, locations, entry}
 
 -- ---- samples: their lengths and their bytes make them, and are made by them
@@ -60,15 +60,15 @@ length-extents at [] = refl
 length-extents at (x ∷ l) = ap suc (length-extents (at + length x) l)
 
 -- where the two pictures have as many tiles, the three runs of payloads stand one by one
-pub locations-runs : (at : ℕ) (p : Panel) → length (p .alpha .lengths) ≡ tile-count p
+pub locations-runs : (at : ℕ) (p : Panel) → length (p .alpha .lengths) ≡ shape p .tiles
     → locations at p
     ≡ located 1 0 (extents at (cut (p .tiles)))
-    ‖ located (colour-grid p) 1 (record { offset = 0; size = length (descriptor (p .dims)) } ∷ [])
-    ‖ located (alpha-tile p) 0 (extents (at + length (flatten (cut (p .tiles)))) (cut (p .alpha)))
-    ‖ located (alpha-grid p) 1 (record { offset = length (descriptor (p .dims)); size = length (descriptor (p .dims)) } ∷ [])
-    ‖ located (exif-id p) 0 (extents (at + length (flatten (cut (p .tiles))) + length (flatten (cut (p .alpha)))) (other-payloads p))
+    ‖ located (colour-grid (shape p)) 1 (record { offset = 0; size = length (descriptor (p .dims)) } ∷ [])
+    ‖ located (alpha-tile (shape p)) 0 (extents (at + length (flatten (cut (p .tiles)))) (cut (p .alpha)))
+    ‖ located (alpha-grid (shape p)) 1 (record { offset = length (descriptor (p .dims)); size = length (descriptor (p .dims)) } ∷ [])
+    ‖ located (exif-id (shape p)) 0 (extents (at + length (flatten (cut (p .tiles))) + length (flatten (cut (p .alpha)))) (other-payloads p))
 locations-runs at p h =
-    let t = tile-count p in
+    let t = shape p .tiles in
     let c = cut (p .tiles) in
     let a = cut (p .alpha) in
     let o = other-payloads p in
@@ -83,8 +83,8 @@ locations-runs at p h =
     let w : drop t (extents at (payloads p)) ≡ ea ++ eo = ap (drop t) e ∙ drop-at ec (ea ++ eo) t lc in
     let y : take t (drop t (extents at (payloads p))) ≡ ea = ap (take t) w ∙ take-at ea eo t la in
     let z : drop (2 * t) (extents at (payloads p)) ≡ eo = ap (drop (2 * t)) e ∙ twice ec ea eo t lc la in
-    λ i. located 1 0 (x i) ‖ located (colour-grid p) 1 (record { offset = 0; size = length (descriptor (p .dims)) } ∷ []) ‖ located (alpha-tile p) 0 (y i)
-    ‖ located (alpha-grid p) 1 (record { offset = length (descriptor (p .dims)); size = length (descriptor (p .dims)) } ∷ []) ‖ located (exif-id p) 0 (z i)
+    λ i. located 1 0 (x i) ‖ located (colour-grid (shape p)) 1 (record { offset = 0; size = length (descriptor (p .dims)) } ∷ []) ‖ located (alpha-tile (shape p)) 0 (y i)
+    ‖ located (alpha-grid (shape p)) 1 (record { offset = length (descriptor (p .dims)); size = length (descriptor (p .dims)) } ∷ []) ‖ located (exif-id (shape p)) 0 (z i)
   where
     twice : (x y z : List Extent) (t : ℕ) → length x ≡ t → length y ≡ t → drop (2 * t) (x ++ (y ++ z)) ≡ z
     twice x y z t hx hy =
@@ -124,7 +124,7 @@ lengths-inj (a ∷ l) (b ∷ m) s t e =
     let y = lengths-inj l m (omega arith) (omega arith) r in
     λ i. x i ∷ y i
 
-locations-sizes : (at : ℕ) (p : Panel) → length (p .alpha .lengths) ≡ tile-count p
+locations-sizes : (at : ℕ) (p : Panel) → length (p .alpha .lengths) ≡ shape p .tiles
     → map size-bytes (locations at p)
     ≡ map length-bytes (cut (p .tiles)) ‖ (be 4 (length (descriptor (p .dims))) ∷ []) ‖ map length-bytes (cut (p .alpha)) ‖ (be 4 (length (descriptor (p .dims))) ∷ [])
     ‖ map length-bytes (other-payloads p)
@@ -140,7 +140,7 @@ pub record Same-payloads (p q : Panel) : Type 0 where
   pub alpha : cut (p .alpha) ≡ cut (q .alpha)
   pub others : other-payloads p ≡ other-payloads q
 
-module _ (p q : Panel) (hp : length (p .alpha .lengths) ≡ tile-count p) (hq : length (q .alpha .lengths) ≡ tile-count q) (n : tile-count p ≡ tile-count q) where
+module _ (p q : Panel) (hp : length (p .alpha .lengths) ≡ shape p .tiles) (hq : length (q .alpha .lengths) ≡ shape q .tiles) (n : shape p .tiles ≡ shape q .tiles) where
   tiles-long : length (cut (p .tiles)) ≡ length (cut (q .tiles))
   tiles-long = length-samples (p .tiles .lengths) (p .tiles .bytes) ∙ n ∙ sym (length-samples (q .tiles .lengths) (q .tiles .bytes))
 

@@ -14,11 +14,11 @@ use Rattle.octets.proofs.Boxes.{body-at, length-body-at, boxes-inj}
 use Rattle.panel.specs.Panel.{Panel}
 use Rattle.panel.specs.Agreement.{norm, Agree}
 use Rattle.panel.specs.Widths.{Fits}
-use Rattle.panel.specs.Items.{Form, tile-count, colour-grid, gain-id, exif-payload, payloads}
+use Rattle.panel.specs.Items.{Form, shape, colour-grid, exif-payload, payloads}
 use Rattle.panel.specs.Iloc.{descriptor, locations, entry}
-use Rattle.panel.specs.Ipco.{ipco, properties}
-use Rattle.panel.specs.Ipma.{associations, ipma}
-use Rattle.panel.specs.File.{ftyp, grpl, idat, meta-boxes, meta, mdat, data-at, file}
+use Rattle.panel.specs.Ipco.{slots, ipco, properties}
+use Rattle.panel.specs.Ipma.{positions, associations, ipma}
+use Rattle.panel.specs.File.{head, grpl, idat, meta-boxes, meta, mdat, data-at, file}
 use Rattle.panel.specs.Refusal.{refusal}
 use Rattle.panel.proofs.Properties.{same-fields, gain-length, gain-inj}
 use Rattle.panel.proofs.Payloads.{Same-payloads, same-payloads, cut-inj}
@@ -52,10 +52,10 @@ module _ (f : Form) where
   meta-list p = meta-boxes f (locations (data-at f p) p) p
 
   abbrev top : Panel → List Box
-  top p = ftyp p ∷ meta f (locations (data-at f p) p) p ∷ mdat p ∷ []
+  top p = head p ∷ meta f (locations (data-at f p) p) p ∷ mdat p ∷ []
 
   abbrev property-list : Panel → List Box
-  property-list p = ipco p ∷ ipma f (associations p) ∷ []
+  property-list p = ipco p ∷ ipma f (associations (shape p) (positions 1 (slots p))) ∷ []
 
   meta-short : (p : Panel) → Accepted f p → length (boxes (meta-list p)) < 2 ^ 32
   unfolding body-at file
@@ -90,11 +90,11 @@ module _ (f : Form) where
         boxes-inj (properties p) (properties q) (properties-short p a) (ap (body-at 0) i)
 
     -- the primary item's id is the count of tiles and one
-    count-eq : meta-list p ≡ meta-list q → tile-count p ≡ tile-count q
+    count-eq : meta-list p ≡ meta-list q → shape p .tiles ≡ shape q .tiles
     unfolding body-at
     count-eq e =
         let m = cancel (be 1 (f .step) ‖ be 3 0) (be 1 (f .step) ‖ be 3 0) refl (ap (body-at 1) e) in
-        let n = be-inj (f .id) {n = colour-grid p} {m = colour-grid q} (omega (arith, a .last)) (omega (arith, b .last)) (m .1) in
+        let n = be-inj (f .id) {n = colour-grid (shape p)} {m = colour-grid (shape q)} (omega (arith, a .last)) (omega (arith, b .last)) (m .1) in
         omega (arith, n)
 
     entries-eq : meta-list p ≡ meta-list q → flatMap (entry f) (locations (data-at f p) p) ≡ flatMap (entry f) (locations (data-at f q) q)
@@ -106,8 +106,8 @@ module _ (f : Form) where
     idat-eq : meta-list p ≡ meta-list q → descriptor (p .dims) ‖ descriptor (p .dims) ≡ descriptor (q .dims) ‖ descriptor (q .dims)
     unfolding last-box
     idat-eq e =
-        let l = grpl (gain-id p + 2) (colour-grid p) (p .gain) in
-        let m = grpl (gain-id q + 2) (colour-grid q) (q .gain) in
+        let l = grpl (shape p) in
+        let m = grpl (shape q) in
         ap (λ (c : Box). c .body) (sym (last-append _ l (idat (p .dims))) ∙ ap (λ (x : List Box). last-box (idat (p .dims)) (drop 6 x)) e ∙ last-append _ m (idat (q .dims)))
 
     sides-eq : descriptor (p .dims) ‖ descriptor (p .dims) ≡ descriptor (q .dims) ‖ descriptor (q .dims) → (p .dims .rows ≡ q .dims .rows) × (p .dims .cols ≡ q .dims .cols)

@@ -8,7 +8,7 @@ use Rattle.octets.specs.Numbers.{_‖_, be}
 use Rattle.octets.specs.Boxes.{Box, full}
 use Rattle.panel.specs.Panel.{Panel}
 use Rattle.panel.specs.declared.GridDims.{GridDims}
-use Rattle.panel.specs.Items.{Form, tile-count, colour-grid, alpha-tile, alpha-grid, exif-id, payloads}
+use Rattle.panel.specs.Items.{Form, shape, colour-grid, alpha-tile, alpha-grid, exif-id, payloads}
 
 -- ---- the descriptor of a grid: version 0, flags, rows − 1, columns − 1, and the size in 16 bits, or with flag 2 in 32
 
@@ -44,14 +44,14 @@ located id method (e ∷ l) = record { id = id; method = method; extent = e } �
 -- the items of a panel by rising id, where mdat's body begins at `at`
 abbrev pub locations : ℕ → Panel → List Location
 locations at p =
-    let t = tile-count p in
+    let s = shape p in
     let n = length (descriptor (p .dims)) in
     let e = extents at (payloads p) in
-    located 1 0 (take t e)
-    ‖ located (colour-grid p) 1 (record { offset = 0; size = n } ∷ [])
-    ‖ located (alpha-tile p) 0 (take t (drop t e))
-    ‖ located (alpha-grid p) 1 (record { offset = n; size = n } ∷ [])
-    ‖ located (exif-id p) 0 (drop (2 * t) e)
+    located 1 0 (take (s .tiles) e)
+    ‖ located (colour-grid s) 1 (record { offset = 0; size = n } ∷ [])
+    ‖ located (alpha-tile s) 0 (take (s .tiles) (drop (s .tiles) e))
+    ‖ located (alpha-grid s) 1 (record { offset = n; size = n } ∷ [])
+    ‖ located (exif-id s) 0 (drop (2 * s .tiles) e)
 
 -- id, method, data reference 0, one extent: its offset and its length
 abbrev pub entry : Form → Location → List ℕ

@@ -1,12 +1,11 @@
 -- 23008-12, 9.3.1: item property association box.
-use mathlib.Core.Option.{Option, none, some}
 use mathlib.Core.List.{List, [], _∷_, map, flatMap}
 use Prim.Native.Nat.{ℕ, _+_}
 use lib.ListN.{length}
 use Rattle.octets.specs.Numbers.{_‖_, be}
 use Rattle.octets.specs.Boxes.{Box, full}
-use Rattle.panel.specs.Panel.{Gain, Panel}
-use Rattle.panel.specs.Items.{Form, given, ids-from, colour-tiles, colour-grid, alpha-tiles, alpha-grid, gain-id}
+use Rattle.panel.specs.Items.{Form, given, ids-from, colour-grid, alpha-tile, alpha-grid, gain-id}
+use Rattle.panel.specs.declared.Shape.{Shape}
 use Rattle.panel.specs.Ipco
 
 -- the positions of a role's boxes, counted along the properties from `at` on
@@ -27,27 +26,20 @@ infix 55 _has_
 abbrev pub _has_ : ℕ → List ℕ → Association
 id has l = record { id = id; properties = l }
 
--- the same for each of these items
-abbrev pub each : List ℕ → List ℕ → List Association
-each ids l = map (λ id. id has l) ids
+-- the same for each of n items
+abbrev pub each : ℕ → ℕ → List ℕ → List Association
+each first n l = map (λ id. id has l) (ids-from first n)
 
--- of the gain image and of the tone map
-abbrev pub gain-associations : ℕ → (Ipco.Role → List ℕ) → List ℕ → Option Gain → List Association
-gain-associations id its turns none = []
-gain-associations id its turns (some g) =
-    (id has essential (its Ipco.hvcC-gain) ‖ its Ipco.ispe-gain ‖ its Ipco.pixi-gain ‖ its Ipco.auxC-gain ‖ its Ipco.colr-gain ‖ turns)
-    ∷ given (g .tone) ((id + 2 has its Ipco.ispe-tone ‖ its Ipco.pixi-tone ‖ its Ipco.colr-tone) ∷ [])
-
--- by rising id, with descriptive properties before the transforms
-abbrev pub associations : Panel → List Association
-associations p =
-    let its = positions 1 (Ipco.slots p) in
+-- by rising id, with descriptive properties before the transforms; its r are the positions of the role r
+abbrev pub associations : Shape → (Ipco.Role → List ℕ) → List Association
+associations s its =
     let turns = essential (its Ipco.irot) ‖ essential (its Ipco.imir) in
-    each (colour-tiles p) (essential (its Ipco.hvcC-colour) ‖ essential (its Ipco.ispe-tile) ‖ essential (its Ipco.colr-first))
-    ‖ (colour-grid p has its Ipco.ispe-whole ‖ essential (its Ipco.colr-first) ‖ its Ipco.pixi-colour ‖ its Ipco.colr-second ‖ its Ipco.clli ‖ turns)
-    ∷ each (alpha-tiles p) (essential (its Ipco.hvcC-alpha) ‖ essential (its Ipco.ispe-tile))
-    ‖ (alpha-grid p has its Ipco.ispe-whole ‖ its Ipco.pixi-alpha ‖ its Ipco.auxC-alpha ‖ turns)
-    ∷ gain-associations (gain-id p) its turns (p .gain)
+    each 1 (s .tiles) (essential (its Ipco.hvcC-colour) ‖ essential (its Ipco.ispe-tile) ‖ essential (its Ipco.colr-first))
+    ‖ (colour-grid s has its Ipco.ispe-whole ‖ essential (its Ipco.colr-first) ‖ its Ipco.pixi-colour ‖ its Ipco.colr-second ‖ its Ipco.clli ‖ turns)
+    ∷ each (alpha-tile s) (s .tiles) (essential (its Ipco.hvcC-alpha) ‖ essential (its Ipco.ispe-tile))
+    ‖ (alpha-grid s has its Ipco.ispe-whole ‖ its Ipco.pixi-alpha ‖ its Ipco.auxC-alpha ‖ turns)
+    ∷ given (s .gain) ((gain-id s has essential (its Ipco.hvcC-gain) ‖ its Ipco.ispe-gain ‖ its Ipco.pixi-gain ‖ its Ipco.auxC-gain ‖ its Ipco.colr-gain ‖ turns) ∷ [])
+    ‖ given (s .tone) ((gain-id s + 2 has its Ipco.ispe-tone ‖ its Ipco.pixi-tone ‖ its Ipco.colr-tone) ∷ [])
 
 -- id, count of associations, the associations
 abbrev pub association : Form → Association → List ℕ

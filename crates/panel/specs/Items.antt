@@ -1,10 +1,12 @@
 -- The items of a file: their ids, and the payloads of those that lie in mdat.
+use mathlib.Core.Bool.{Bool, true, false, cond}
 use mathlib.Core.Option.{Option, none, some}
 use mathlib.Core.List.{List, [], _∷_}
 use Prim.Native.Nat.{ℕ, zero, suc, _+_, _*_}
 use lib.ListN.{take, drop, length}
 use Rattle.octets.specs.Numbers.{_‖_, be}
 use Rattle.panel.specs.Panel.{Gain, Panel}
+use Rattle.panel.specs.declared.Shape.{Shape}
 
 -- a form of the file: how many bytes an item's id takes, and a count of items; and what the versions of the boxes that hold them gain by it
 pub record Form : Type 0 where
@@ -17,14 +19,25 @@ ordinary = record { id = 2; count = 2; step = 0 }
 
 -- ---- parts that may be absent
 
+abbrev pub has : {A : Type 0} → Option A → Bool
+has none = false
+has (some a) = true
+
 abbrev pub listed : {A : Type 0} → Option A → List A
 listed none = []
 listed (some a) = a ∷ []
 
--- l where the part is present
-abbrev pub given : {A B : Type 0} → Option A → List B → List B
-given none l = []
-given (some a) l = l
+-- l if so
+abbrev pub given : {A : Type 0} → Bool → List A → List A
+given b l = cond b l []
+
+abbrev pub tone-of : Option Gain → Option (List ℕ)
+tone-of none = none
+tone-of (some g) = g .tone
+
+-- which items a panel has
+abbrev pub shape : Panel → Shape
+shape p = record { tiles = length (p .tiles .lengths); exif = has (p .metadata .exif); gain = has (p .gain); tone = has (tone-of (p .gain)) }
 
 -- ---- ids: the colour tiles from 1 on, the colour grid, the alpha tiles, the alpha grid, then what is present of Exif, gain image, XMP, tone map
 
@@ -33,29 +46,20 @@ abbrev pub ids-from : ℕ → ℕ → List ℕ
 ids-from n zero = []
 ids-from n (suc k) = n ∷ ids-from (suc n) k
 
-abbrev pub tile-count : Panel → ℕ
-tile-count p = length (p .tiles .lengths)
+abbrev pub colour-grid : Shape → ℕ
+colour-grid s = s .tiles + 1
 
-abbrev pub colour-tiles : Panel → List ℕ
-colour-tiles p = ids-from 1 (tile-count p)
+abbrev pub alpha-tile : Shape → ℕ
+alpha-tile s = s .tiles + 2
 
-abbrev pub colour-grid : Panel → ℕ
-colour-grid p = tile-count p + 1
+abbrev pub alpha-grid : Shape → ℕ
+alpha-grid s = 2 * s .tiles + 2
 
-abbrev pub alpha-tile : Panel → ℕ
-alpha-tile p = tile-count p + 2
+abbrev pub exif-id : Shape → ℕ
+exif-id s = alpha-grid s + 1
 
-abbrev pub alpha-tiles : Panel → List ℕ
-alpha-tiles p = ids-from (alpha-tile p) (tile-count p)
-
-abbrev pub alpha-grid : Panel → ℕ
-alpha-grid p = 2 * tile-count p + 2
-
-abbrev pub exif-id : Panel → ℕ
-exif-id p = alpha-grid p + 1
-
-abbrev pub gain-id : Panel → ℕ
-gain-id p = exif-id p + length (listed (p .metadata .exif))
+abbrev pub gain-id : Shape → ℕ
+gain-id s = exif-id s + cond (s .exif) 1 0
 
 -- ---- payloads, in the order of mdat
 

@@ -1,12 +1,13 @@
 -- Why a panel is refused: the number of the first check that holds, or 0.
-use mathlib.Core.Bool.{Bool, true, false, _||_, not}
+use mathlib.Core.Bool.{Bool, true, false, _||_, not, cond}
 use mathlib.Core.List.{List, [], _∷_}
 use Prim.Native.Nat.{ℕ, _+_, _*_, _^_}
 use lib.Dec.{ltb, leb, eqb}
 use lib.ListN.{length}
 use Rattle.octets.specs.Numbers.{_‖_, total}
 use Rattle.panel.specs.Panel.{Tiles, Panel}
-use Rattle.panel.specs.Items.{Form, alpha-grid, other-payloads}
+use Rattle.panel.specs.Items.{Form, shape, alpha-grid}
+use Rattle.panel.specs.declared.Shape.{Shape}
 use Rattle.panel.specs.File.{file}
 
 abbrev pub bad-side : ℕ → Bool
@@ -25,9 +26,8 @@ bad-counts n c a = differ c n || differ a n
 abbrev pub bad-sum : Tiles → Bool
 bad-sum t = differ (total (t .lengths)) (length (t .bytes))
 
--- behind the alpha grid each payload is an item's
-abbrev pub last-id : Panel → ℕ
-last-id p = alpha-grid p + length (other-payloads p)
+abbrev pub last-id : Shape → ℕ
+last-id s = alpha-grid s + cond (s .exif) 1 0 + cond (s .gain) 2 0 + cond (s .tone) 1 0
 
 -- the last id does not fit in k bytes
 abbrev pub bad-id : ℕ → ℕ → Bool
@@ -55,7 +55,7 @@ checks f n p =
     check 1 (λ _. bad-grid (p .dims .rows) (p .dims .cols))
     ∷ check 2 (λ _. bad-counts (p .dims .rows * p .dims .cols) (length (p .tiles .lengths)) (length (p .alpha .lengths)))
     ∷ check 3 (λ _. bad-sum (p .tiles) || bad-sum (p .alpha))
-    ∷ check 4 (λ _. bad-id (f .id) (last-id p))
+    ∷ check 4 (λ _. bad-id (f .id) (last-id (shape p)))
     ∷ check 5 (λ _. too-long n)
     ∷ []
 

@@ -29,6 +29,14 @@ pub struct GridDims {
     pub full_h: u32,
 }
 
+// Which items a file has: how many tiles each picture, and whether Exif, a gain map and a tone map.
+pub struct Shape {
+    pub tiles: u32,
+    pub exif: bool,
+    pub gain: bool,
+    pub tone: bool,
+}
+
 // The numbers of a panel.
 pub struct Panel {
     pub dims: GridDims,

@@ -8,11 +8,11 @@ use lib.ListN.{length, take, drop, getD}
 use Rattle.octets.specs.Numbers.{_‖_, be, text}
 use Rattle.octets.specs.Boxes.{Box, box, boxes, tag, kind}
 use Rattle.panel.specs.Panel.{Panel}
-use Rattle.panel.specs.Items.{ordinary}
+use Rattle.panel.specs.Items.{ordinary, shape}
 use Rattle.panel.specs.Iloc.{Location, locations}
 use Rattle.panel.specs.Iinf.{infes}
-use Rattle.panel.specs.Ipco.{properties}
-use Rattle.panel.specs.Ipma.{Association, associations}
+use Rattle.panel.specs.Ipco.{slots, properties}
+use Rattle.panel.specs.Ipma.{Association, positions, associations}
 use Rattle.panel.specs.File.{data-at, file}
 use Rattle.panel.specs.Answer.{Outcome, made, refused, write-answer}
 
@@ -70,10 +70,10 @@ properties-of id (a ∷ l) = elim (eqb (a .id) id) [ true ↦ a .properties | fa
 abbrev pub shown : Panel → List ℕ → Shown → Bool
 shown p bytes (box-at type offset size) = stands bytes offset (be 4 size ‖ tag (kind type))
 shown p bytes (bytes-at offset x) = stands bytes offset x
-shown p bytes (item id type) = stands (getD (infes ordinary p) (id - 1) no-box .body) 4 (be 2 id ‖ be 2 0 ‖ text type)
+shown p bytes (item id type) = stands (getD (infes ordinary (shape p)) (id - 1) no-box .body) 4 (be 2 id ‖ be 2 0 ‖ text type)
 shown p bytes (payload id x) = same (extent-of id bytes (locations (data-at ordinary p) p)) x
 shown p bytes (property position type body) = same (boxes (getD (properties p) (position - 1) no-box ∷ [])) (boxes (box type body ∷ []))
-shown p bytes (associated id l) = same (properties-of id (associations p)) l
+shown p bytes (associated id l) = same (properties-of id (associations (shape p) (positions 1 (slots p)))) l
 
 abbrev pub all-shown : Panel → List ℕ → List Shown → Bool
 all-shown p bytes [] = true

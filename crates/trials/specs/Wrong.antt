@@ -8,7 +8,7 @@ use Rattle.octets.specs.Boxes.{boxes}
 use Rattle.panel.specs.Panel.{Panel}
 use Rattle.panel.specs.Items.{ordinary}
 use Rattle.panel.specs.Iloc.{Location, locations}
-use Rattle.panel.specs.File.{ftyp, meta, mdat, data-at, file}
+use Rattle.panel.specs.File.{head, meta, mdat, data-at, file}
 use Rattle.panel.specs.Refusal.{refusal}
 use Rattle.panel.specs.Answer.{Outcome, refused, outcome, write-answer, left, Result}
 use Rattle.trials.specs.Panels.{P}
@@ -33,7 +33,7 @@ first-only [] = []
 first-only (l ∷ r) = l ∷ map no-offset r
 
 abbrev pub first-file : Panel → List ℕ
-first-file p = boxes (ftyp p ∷ meta ordinary (first-only (locations (data-at ordinary p) p)) p ∷ mdat p ∷ [])
+first-file p = boxes (head p ∷ meta ordinary (first-only (locations (data-at ordinary p) p)) p ∷ mdat p ∷ [])
 
 abbrev pub first-offset : Panel → List ℕ → Result
 first-offset p old = let a = write-answer ordinary p (length old) in record { answer = a; output = left a (first-file p) old }
