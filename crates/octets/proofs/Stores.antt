@@ -1,7 +1,7 @@
 -- Laws of `Wrote`: one write behind another is one write, a box is a write, and what a loop of writes still owes.
 use mathlib.Core.Path.{_≡_, refl, sym, ap, _∙_}
 use mathlib.Core.List.{List, [], _∷_, _++_}
-use Prim.Native.Nat.{ℕ, suc, _+_, _≤_, _<_}
+use Prim.Native.Nat.{ℕ, suc, _+_, _*_, _/_, _^_, _≤_, _<_}
 use Prim.Native.String.{String}
 use native.Mathlib.Nat.{add-zero, add-suc, suc-add}
 use native.Mathlib.Numerals.{add-one}
@@ -9,9 +9,10 @@ use native.Mathlib.Omega.{arith}
 use lib.ListN.{length, length-append, take, drop, set, getD}
 use lib.Seq.{sets, sets-eq, length-sets, length-take-le, take-suc}
 use Rattle.octets.specs.Numbers.{_‖_, be}
-use Rattle.octets.specs.Boxes.{kind, tag, box, boxes}
-use Rattle.octets.specs.Stores.{lay, Wrote}
-use Rattle.octets.proofs.Boxes.{boxes-one}
+use Rattle.octets.specs.Boxes.{kind, tag, Box, box, full, boxes}
+use Rattle.octets.specs.Stores.{lay, Wrote, Boxed}
+use Rattle.octets.proofs.Boxes.{boxes-append, boxes-one}
+use Rattle.octets.proofs.Numbers.{be-append}
 
 -- ---- runs of stores
 
@@ -22,6 +23,10 @@ sets-append l i (x ∷ xs) ys = ap (λ (k : ℕ). sets (sets l i (x ∷ xs)) k y
 pub lay-append : (l : List ℕ) (i : ℕ) (xs ys : List ℕ) → lay l i (xs ++ ys) ≡ lay (lay l i xs) (i + length xs) ys
 unfolding lay
 lay-append l i xs ys = sym (sets-append l i xs ys)
+
+pub length-lay : (l : List ℕ) (i : ℕ) (xs : List ℕ) → length (lay l i xs) ≡ length l
+unfolding lay
+length-lay l i xs = length-sets l i xs
 
 -- one more byte of a copy
 pub lay-take-step : (l : List ℕ) (at i : ℕ) (src : List ℕ) → i < length src → set (lay l at (take i src)) (at + i) (getD src i 0) ≡ lay l at (take (i + 1) src)
@@ -70,12 +75,40 @@ front {l} {o} {xs} w h =
     let z : 0 + length xs ≡ length xs = omega arith in
     w .bytes ∙ sets-eq xs l 0 (omega (arith, w .size)) ∙ ap (λ (i : ℕ). xs ++ drop i l) z
 
--- a box: its size, its type, its body
-pub boxed : {l m q o x : List ℕ} {i j g e n s : ℕ} (t : String) → Wrote l i 4 (be 4 s) m j → Wrote m j 4 (tag (kind t)) q g → Wrote q g n x o e → s ≡ 8 + n
-    → Wrote l i (8 + n) (boxes (box t x ∷ [])) o e
-boxed {x = x} {s = s} t a b c h =
+-- a number in two parts, the upper j bytes and the lower k
+pub halves : (j k v : ℕ) {l m o xs ys : List ℕ} {i r e : ℕ} → Wrote l i j xs m r → Wrote m r k ys o e → xs ≡ be j (v / 2 ^ (8 * k)) → ys ≡ be k v
+    → Wrote l i (j + k) (be (j + k) v) o e
+halves j k v p q x y = told (p ▹ q) ((λ i. x i ++ y i) ∙ sym (be-append j k v)) refl
+
+-- ---- boxes
+
+-- a box: its head, its body
+pub boxed : {l m o x : List ℕ} {i j e n s : ℕ} (t : String) → Wrote l i 8 (be 4 s ‖ tag (kind t)) m j → Wrote m j n x o e → s ≡ 8 + n
+    → Boxed l i (8 + n) (box t x ∷ []) o e
+boxed {x = x} {s = s} t a c h =
     let z : s ≡ 8 + length x = omega (arith, c .size) in
-    told (a ▹ b ▹ c) (ap (λ (k : ℕ). be 4 k ‖ tag (kind t) ‖ x) z ∙ sym (boxes-one (box t x))) (omega arith)
+    record { wrote = told (a ▹ c) (ap (λ (k : ℕ). be 4 k ‖ tag (kind t) ‖ x) z ∙ sym (boxes-one (box t x))) refl }
+
+-- a box with a version and flags
+pub full-boxed : {l m o x : List ℕ} {i j e n s : ℕ} (t : String) (v f : ℕ) → Wrote l i 12 (be 4 s ‖ tag (kind t) ‖ be 1 v ‖ be 3 f) m j → Wrote m j n x o e
+    → s ≡ 12 + n → Boxed l i (12 + n) (full t v f x ∷ []) o e
+full-boxed {x = x} {s = s} t v f a c h =
+    let z : s ≡ 8 + length (be 1 v ‖ be 3 f ‖ x) = omega (arith, c .size) in
+    record { wrote = told (a ▹ c) (ap (λ (k : ℕ). be 4 k ‖ tag (kind t) ‖ be 1 v ‖ be 3 f ‖ x) z ∙ sym (boxes-one (full t v f x))) refl }
+
+infixr 20 _▸_
+-- boxes behind boxes
+pub _▸_ : {l m o : List ℕ} {x y : List Box} {i j e n k : ℕ} → Boxed l i n x m j → Boxed m j k y o e → Boxed l i (n + k) (x ++ y) o e
+_▸_ {x = x} {y = y} p q = record { wrote = told (p .wrote ▹ q .wrote) (sym (boxes-append x y)) refl }
+
+-- the same boxes, said otherwise
+pub retold : {l o : List ℕ} {x y : List Box} {i r n k : ℕ} → Boxed l i n x o r → x ≡ y → n ≡ k → Boxed l i k y o r
+retold p e h = record { wrote = told (p .wrote) (ap boxes e) h }
+
+-- no box
+pub no-boxes : {l : List ℕ} {i : ℕ} → Boxed l i 0 [] l i
+unfolding boxes
+no-boxes = record { wrote = nothing }
 
 -- ---- loops that write
 

@@ -4,6 +4,7 @@ use mathlib.Core.List.{List}
 use Prim.Native.Nat.{ℕ, _+_}
 use lib.ListN.{length}
 use lib.Seq.{sets}
+use Rattle.octets.specs.Boxes.{Box, boxes}
 
 -- the list l with xs stored from i on
 unfoldable pub lay : List ℕ → ℕ → List ℕ → List ℕ
@@ -14,3 +15,7 @@ pub record Wrote (old : List ℕ) (at n : ℕ) (xs new : List ℕ) (next : ℕ) 
   pub bytes : new ≡ lay old at xs
   pub size : length xs ≡ n
   pub end : next ≡ at + n
+
+-- a write of boxes
+pub record Boxed (old : List ℕ) (at n : ℕ) (l : List Box) (new : List ℕ) (next : ℕ) : Type 0 where
+  pub wrote : Wrote old at n (boxes l) new next
