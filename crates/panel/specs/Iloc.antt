@@ -13,12 +13,16 @@ use Rattle.panel.specs.Items.{Form, shape, colour-grid, alpha-tile, alph
 -- ---- the descriptor of a grid: version 0, flags, rows − 1, columns − 1, and the size in 16 bits, or with flag 2 in 32
 
 abbrev pub descriptor-of : Bool → GridDims → List ℕ
-descriptor-of wide d =
-    let k = cond {A = ℕ} wide 4 2 in
-    be 1 0 ‖ be 1 (cond wide 2 0) ‖ be 1 (d .rows - 1) ‖ be 1 (d .cols - 1) ‖ be k (d .«full_w») ‖ be k (d .«full_h»)
+descriptor-of large d =
+    let k = cond {A = ℕ} large 4 2 in
+    be 1 0 ‖ be 1 (cond large 2 0) ‖ be 1 (d .rows - 1) ‖ be 1 (d .cols - 1) ‖ be k (d .«full_w») ‖ be k (d .«full_h»)
+
+-- a side is above 65,535
+abbrev pub wide : GridDims → Bool
+wide d = ltb 65535 (d .«full_w») || ltb 65535 (d .«full_h»)
 
 abbrev pub descriptor : GridDims → List ℕ
-descriptor d = descriptor-of (ltb 65535 (d .«full_w») || ltb 65535 (d .«full_h»)) d
+descriptor d = descriptor-of (wide d) d
 
 -- ---- where an item's payload lies: at an offset of the file (method 0) or of idat's body (method 1)
 
