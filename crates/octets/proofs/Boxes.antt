@@ -2,18 +2,24 @@
 use mathlib.Core.Path.{_≡_, refl, sym, ap, _∙_, subst}
 use mathlib.Core.Bool.{Bool, true, false, _&&_, not}
 use mathlib.Core.Option.{Option, none, some}
-use mathlib.Core.List.{List, [], _∷_, _++_, append-assoc, append-nil}
-use Prim.Native.Nat.{ℕ, zero, suc, _+_, _^_, _≤_, _<_}
+use mathlib.Core.List.{List, [], _∷_, _++_, map, flatMap, append-assoc, append-nil}
+use Prim.Native.Nat.{ℕ, zero, suc, _+_, _*_, _^_, _≤_, _<_}
 use Prim.Native.String.{String}
+use native.Mathlib.Nat.{zero-mul, suc-mul}
 use native.Mathlib.Omega.{arith}
 use lib.Dec.{T, eqb, eqb-refl, T-not}
-use lib.ListN.{length, length-append}
+use lib.ListN.{length, length-append, drop}
+use lib.Seq.{drop-append-add}
 use Rattle.octets.specs.Numbers.{_‖_, be}
-use Rattle.octets.specs.Boxes.{Kind, kind, tag, Box, box, optional, boxes}
+use Rattle.octets.specs.Boxes.{Kind, kind-of, kind, tag, Box, box, optional, boxes}
 use Rattle.octets.proofs.Lists.{cancel}
 use Rattle.octets.proofs.Numbers.{cancel-be}
 
 -- ---- lengths, and how the bytes come apart
+
+pub boxes-nil : boxes [] ≡ []
+unfolding boxes
+boxes-nil = refl
 
 pub length-none : length (boxes []) ≡ 0
 unfolding boxes
@@ -33,9 +39,48 @@ boxes-append (b ∷ l) m =
 pub length-boxes-append : (l m : List Box) → length (boxes (l ++ m)) ≡ length (boxes l) + length (boxes m)
 length-boxes-append l m = ap length (boxes-append l m) ∙ length-append (boxes l) (boxes m)
 
+-- the first box, then the others
+pub boxes-cons : (b : Box) (l : List Box) → boxes (b ∷ l) ≡ boxes (b ∷ []) ++ boxes l
+boxes-cons b l = boxes-append (b ∷ []) l
+
+-- four bytes are their own type
+pub tag-kind-of : (t : List ℕ) → length t ≡ 4 → tag (kind-of t) ≡ t
+tag-kind-of (a ∷ b ∷ c ∷ d ∷ []) h = refl
+tag-kind-of [] h = absurd (omega arith)
+tag-kind-of (a ∷ []) h = absurd (omega arith)
+tag-kind-of (a ∷ b ∷ []) h = absurd (omega arith)
+tag-kind-of (a ∷ b ∷ c ∷ []) h = absurd (omega arith)
+tag-kind-of (a ∷ b ∷ c ∷ d ∷ e ∷ t) h = absurd (omega arith)
+
+pub boxes-map : {A : Type 0} (make : A → Box) (l : List A) → boxes (map make l) ≡ flatMap (λ a. boxes (make a ∷ [])) l
+unfolding flatMap
+boxes-map make [] = boxes-nil
+boxes-map make (a ∷ l) = boxes-cons (make a) (map make l) ∙ ap (λ (r : List ℕ). boxes (make a ∷ []) ++ r) (boxes-map make l)
+
 pub boxes-one : (b : Box) → boxes (b ∷ []) ≡ be 4 (8 + length (b .body)) ++ (tag (b .type) ++ b .body)
 unfolding boxes
 boxes-one b = ap (λ (r : List ℕ). be 4 (8 + length (b .body)) ++ (tag (b .type) ++ r)) (append-nil (b .body))
+
+-- the bytes of each: the 8 of its size and type, and its body
+abbrev pub sizes : List Box → ℕ
+sizes [] = 0
+sizes (b ∷ l) = 8 + length (b .body) + sizes l
+
+pub length-sizes : (l : List Box) → length (boxes l) ≡ sizes l
+length-sizes [] = length-none
+length-sizes (b ∷ l) = omega (arith, length-boxes b l, length-sizes l)
+
+-- boxes whose bodies have one length
+pub length-boxes-map : {A : Type 0} (make : A → Box) (k : ℕ) → ((a : A) → length (make a .body) ≡ k) → (l : List A)
+    → length (boxes (map make l)) ≡ length l * (8 + k)
+length-boxes-map make k h [] = omega (arith, length-none, zero-mul (8 + k))
+length-boxes-map make k h (a ∷ l) =
+    omega (arith, length-boxes (make a) (map make l), h a, length-boxes-map make k h l, suc-mul (length l) (8 + k))
+
+-- behind other boxes, and the size and type of the last, all that is left is its body
+pub drop-boxes : (l : List Box) (b : Box) → drop (length (boxes l) + 8) (boxes (l ++ (b ∷ []))) ≡ b .body
+drop-boxes l b =
+    ap (drop (length (boxes l) + 8)) (boxes-append l (b ∷ []) ∙ ap (λ (r : List ℕ). boxes l ++ r) (boxes-one b)) ∙ drop-append-add (boxes l) _ 8
 
 -- the body of the box at n, empty past the end
 unfoldable pub body-at : ℕ → List Box → List ℕ

@@ -1,5 +1,6 @@
--- Laws of lists that the library does not have: cancelling fronts of equal length, sums, and lists printed element by element.
+-- Laws of lists that the library does not have: cancelling fronts of equal length, a choice of two, sums, and lists printed element by element.
 use mathlib.Core.Path.{_≡_, refl, sym, ap, _∙_}
+use mathlib.Core.Bool.{Bool, true, false, cond}
 use mathlib.Core.List.{List, [], _∷_, _++_, map, flatten, flatMap, append-assoc}
 use Prim.Native.Nat.{ℕ, _+_, _*_, _≤_, _<_}
 use native.Mathlib.Nat.{zero-mul, suc-mul}
@@ -20,6 +21,12 @@ cancel (a ∷ s) (b ∷ t) {x} {y} l e =
     let e′ : s ++ x ≡ t ++ y = cc in
     let r = cancel s t (omega arith) e′ in
     (cc, r .1)
+
+-- ---- a choice of two
+
+pub length-cond : {A : Type 0} (b : Bool) (x y : List A) → length (cond b x y) ≡ cond b (length x) (length y)
+length-cond true x y = refl
+length-cond false x y = refl
 
 -- ---- sums
 

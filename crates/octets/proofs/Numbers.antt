@@ -1,6 +1,6 @@
 -- Laws of `be`, all over the width k: 8, 16 and 32 bits are k = 1, 2 and 4.
 use mathlib.Core.Path.{_≡_, refl, sym, ap, _∙_}
-use mathlib.Core.List.{List, _∷_, _++_}
+use mathlib.Core.List.{List, [], _∷_, _++_}
 use Prim.Native.Nat.{ℕ, zero, suc, _+_, _*_, _/_, _%_, _^_, _<_}
 use native.Mathlib.Nat.{mod-eq-of-lt, zero-add, suc-add}
 use native.Mathlib.Omega.{arith}
@@ -56,3 +56,7 @@ be-mod j (suc k) n =
     = ap (λ (i : ℕ). n % 2 ^ i / 2 ^ (8 * k) % 256) w ∙ ap (λ (i : ℕ). i % 256) (field n (8 * j + 8) (8 * k)) ∙ mod-mod-pow (n / 2 ^ (8 * k)) (8 * j) 8 in
     let t = ap (λ (i : ℕ). be k (n % 2 ^ i)) v ∙ be-mod (suc j) k n in
     λ i. h i ∷ t i
+
+-- one byte that fits is itself
+pub be-one : {n : ℕ} → n < 256 → be 1 n ≡ n ∷ []
+be-one {n} h = let e : n / 1 % 256 ≡ n = omega arith in ap (λ (k : ℕ). k ∷ []) e

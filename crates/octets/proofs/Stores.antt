@@ -9,9 +9,9 @@ use native.Mathlib.Omega.{arith}
 use lib.ListN.{length, length-append, take, drop, set, getD}
 use lib.Seq.{sets, sets-eq, length-sets, length-take-le, take-suc}
 use Rattle.octets.specs.Numbers.{_‖_, be}
-use Rattle.octets.specs.Boxes.{kind, tag, Box, box, full, boxes}
+use Rattle.octets.specs.Boxes.{kind, tag, Box, box, box-of, full, boxes}
 use Rattle.octets.specs.Stores.{lay, Wrote, Boxed}
-use Rattle.octets.proofs.Boxes.{boxes-append, boxes-one}
+use Rattle.octets.proofs.Boxes.{boxes-append, boxes-one, tag-kind-of}
 use Rattle.octets.proofs.Numbers.{be-append}
 
 -- ---- runs of stores
@@ -88,6 +88,13 @@ pub boxed : {l m o x : List ℕ} {i j e n s : ℕ} (t : String) → Wrote l i 8 
 boxed {x = x} {s = s} t a c h =
     let z : s ≡ 8 + length x = omega (arith, c .size) in
     record { wrote = told (a ▹ c) (ap (λ (k : ℕ). be 4 k ‖ tag (kind t) ‖ x) z ∙ sym (boxes-one (box t x))) refl }
+
+-- a box of a type that is given as bytes
+pub boxed-of : {l m o t x : List ℕ} {i j e n s : ℕ} → Wrote l i 8 (be 4 s ‖ t) m j → Wrote m j n x o e → length t ≡ 4 → s ≡ 8 + n → Boxed l i (8 + n) (box-of t x ∷ []) o e
+boxed-of {t = t} {x = x} {s = s} a c w h =
+    let z : s ≡ 8 + length x = omega (arith, c .size) in
+    let k = tag-kind-of t w in
+    record { wrote = told (a ▹ c) ((λ i. be 4 (z i) ‖ sym k i ‖ x) ∙ sym (boxes-one (box-of t x))) refl }
 
 -- a box with a version and flags
 pub full-boxed : {l m o x : List ℕ} {i j e n s : ℕ} (t : String) (v f : ℕ) → Wrote l i 12 (be 4 s ‖ tag (kind t) ‖ be 1 v ‖ be 3 f) m j → Wrote m j n x o e

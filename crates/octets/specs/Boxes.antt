@@ -13,8 +13,11 @@ pub record Kind : Type 0 where
   pub third : ℕ
   pub fourth : ℕ
 
+abbrev pub kind-of : List ℕ → Kind
+kind-of t = record { first = getD t 0 0; second = getD t 1 0; third = getD t 2 0; fourth = getD t 3 0 }
+
 abbrev pub kind : String → Kind
-kind s = let t = text s in record { first = getD t 0 0; second = getD t 1 0; third = getD t 2 0; fourth = getD t 3 0 }
+kind s = kind-of (text s)
 
 abbrev pub tag : Kind → List ℕ
 tag k = k .first ∷ k .second ∷ k .third ∷ k .fourth ∷ []
@@ -25,6 +28,10 @@ pub record Box : Type 0 where
 
 abbrev pub box : String → List ℕ → Box
 box s x = record { type = kind s; body = x }
+
+-- of a type that is given as bytes
+abbrev pub box-of : List ℕ → List ℕ → Box
+box-of t x = record { type = kind-of t; body = x }
 
 -- FullBox: a version in 8 bits and flags in 24 bits come first in the body
 abbrev pub full : String → ℕ → ℕ → List ℕ → Box

@@ -1,3 +1,4 @@
+pub mod Ids
 pub mod Codes
 pub mod Fields
 pub mod Properties

@@ -22,28 +22,28 @@ pub record Association : Type 0 where
   pub id : ℕ
   pub properties : List ℕ
 
-infix 55 _has_
-abbrev pub _has_ : ℕ → List ℕ → Association
-id has l = record { id = id; properties = l }
+infix 55 _with_
+abbrev pub _with_ : ℕ → List ℕ → Association
+id with l = record { id = id; properties = l }
 
 -- the same for each of n items
 abbrev pub each : ℕ → ℕ → List ℕ → List Association
-each first n l = map (λ id. id has l) (ids-from first n)
+each first n l = map (λ id. id with l) (ids-from first n)
 
 -- its r are the positions of the role r, and turns those of the transforms
 abbrev pub gain-associations : Shape → (Ipco.Role → List ℕ) → List ℕ → List Association
 gain-associations s its turns =
-    given (s .gain) ((gain-id s has essential (its Ipco.hvcC-gain) ‖ its Ipco.ispe-gain ‖ its Ipco.pixi-gain ‖ its Ipco.auxC-gain ‖ its Ipco.colr-gain ‖ turns) ∷ [])
-    ‖ given (s .tone) ((gain-id s + 2 has its Ipco.ispe-tone ‖ its Ipco.pixi-tone ‖ its Ipco.colr-tone) ∷ [])
+    given (s .gain) ((gain-id s with essential (its Ipco.hvcC-gain) ‖ its Ipco.ispe-gain ‖ its Ipco.pixi-gain ‖ its Ipco.auxC-gain ‖ its Ipco.colr-gain ‖ turns) ∷ [])
+    ‖ given (s .tone) ((gain-id s + 2 with its Ipco.ispe-tone ‖ its Ipco.pixi-tone ‖ its Ipco.colr-tone) ∷ [])
 
 -- by rising id, with descriptive properties before the transforms
 abbrev pub associations : Shape → (Ipco.Role → List ℕ) → List Association
 associations s its =
     let turns = essential (its Ipco.irot) ‖ essential (its Ipco.imir) in
     each 1 (s .tiles) (essential (its Ipco.hvcC-colour) ‖ essential (its Ipco.ispe-tile) ‖ essential (its Ipco.colr-first))
-    ‖ (colour-grid s has its Ipco.ispe-whole ‖ essential (its Ipco.colr-first) ‖ its Ipco.pixi-colour ‖ its Ipco.colr-second ‖ its Ipco.clli ‖ turns)
+    ‖ (colour-grid s with its Ipco.ispe-whole ‖ essential (its Ipco.colr-first) ‖ its Ipco.pixi-colour ‖ its Ipco.colr-second ‖ its Ipco.clli ‖ turns)
     ∷ each (alpha-tile s) (s .tiles) (essential (its Ipco.hvcC-alpha) ‖ essential (its Ipco.ispe-tile))
-    ‖ (alpha-grid s has its Ipco.ispe-whole ‖ its Ipco.pixi-alpha ‖ its Ipco.auxC-alpha ‖ turns)
+    ‖ (alpha-grid s with its Ipco.ispe-whole ‖ its Ipco.pixi-alpha ‖ its Ipco.auxC-alpha ‖ turns)
     ∷ gain-associations s its turns
 
 -- id, count of associations, the associations

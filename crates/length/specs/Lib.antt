@@ -1,0 +1,4 @@
+pub mod Parts
+pub mod Properties
+pub mod Size
+pub mod Shares

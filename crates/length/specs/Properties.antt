@@ -1,0 +1,83 @@
+-- The lengths of the bodies of ipco and ipma as sums of numbers: how many properties there are, how long, and how many each item has.
+use mathlib.Core.Bool.{cond}
+use mathlib.Core.Option.{Option, none, some}
+use mathlib.Core.List.{List}
+use Prim.Native.Nat.{ℕ, _+_, _*_}
+use lib.ListN.{length}
+use Rattle.panel.specs.Types.{irot-steps, imir-axis}
+use Rattle.panel.specs.Panel.{Colour, Gain, Panel}
+use Rattle.panel.specs.Items.{Form, has, shape}
+use Rattle.panel.specs.Ipco.{irot-payload, imir-payload}
+use Rattle.panel.specs.declared.Shape.{Shape}
+use Rattle.panel.specs.declared.color.Cicp.{Cicp}
+use Rattle.panel.specs.declared.metadata.Orientation.{Orientation}
+use Rattle.length.specs.Parts.{long}
+
+-- ---- ipco: whole boxes; a colr has 19 bytes by code points, and 12 and the profile by ICC
+
+abbrev pub first-colr-size : Option Cicp → Option (List ℕ) → ℕ
+first-colr-size (some c) icc = 19
+first-colr-size none (some i) = 12 + length i
+first-colr-size none none = 19
+
+-- a profile beside code points
+abbrev pub second-colr-count : Option Cicp → Option (List ℕ) → ℕ
+second-colr-count (some c) icc = cond (has icc) 1 0
+second-colr-count none icc = 0
+
+abbrev pub second-colr-size : Option Cicp → Option (List ℕ) → ℕ
+second-colr-size (some c) icc = cond (has icc) 12 0 + long icc
+second-colr-size none icc = 0
+
+abbrev pub alternates-count : Option Colour → ℕ
+alternates-count none = 0
+alternates-count (some a) = cond (has (a .cicp)) 1 0 + cond (has (a .icc)) 1 0
+
+abbrev pub alternates-size : Option Colour → ℕ
+alternates-size none = 0
+alternates-size (some a) = cond (has (a .cicp)) 19 0 + cond (has (a .icc)) 12 0 + long (a .icc)
+
+-- the transforms of an orientation
+abbrev pub irot-count : Orientation → ℕ
+irot-count o = cond (has (irot-payload (irot-steps o))) 1 0
+
+abbrev pub imir-count : Orientation → ℕ
+imir-count o = cond (has (imir-payload (imir-axis o))) 1 0
+
+abbrev pub turn-count : Orientation → ℕ
+turn-count o = irot-count o + imir-count o
+
+-- hvcC, ispe, pixi, auxC and colr of the gain image; ispe, pixi and the alternate colours of the tone map
+abbrev pub gain-properties-size : Option Gain → ℕ
+gain-properties-size none = 0
+gain-properties-size (some g) = (8 + length (g .config)) + 20 + 14 + 52 + 19 + cond (has (g .tone)) (20 + 16 + alternates-size (g .alternate)) 0
+
+-- hvcC, two ispe, colr and pixi of the colour; hvcC, pixi and auxC of alpha; what is present of the second colr, irot, imir and clli
+abbrev pub ipco-size : Panel → ℕ
+ipco-size p =
+    (8 + length (p .tiles .config)) + 20 + 20 + first-colr-size (p .colour .cicp) (p .colour .icc) + 16
+    + (8 + length (p .alpha .config)) + 14 + 39
+    + second-colr-size (p .colour .cicp) (p .colour .icc)
+    + 9 * irot-count (p .metadata .orientation) + 9 * imir-count (p .metadata .orientation) + 12 * cond (has (p .metadata .light)) 1 0
+    + gain-properties-size (p .gain)
+
+-- ---- ipma
+
+-- the tiles, the grids, the gain image and the tone map
+abbrev pub pictures : Shape → ℕ
+pictures s = 2 * s .tiles + 2 + cond (s .gain) 1 0 + cond (s .tone) 1 0
+
+-- how many properties the gain image and the tone map have, where so many are transforms
+abbrev pub gain-association-count : ℕ → Option Gain → ℕ
+gain-association-count turns none = 0
+gain-association-count turns (some g) = 5 + turns + cond (has (g .tone)) (2 + alternates-count (g .alternate)) 0
+
+-- a colour tile has three, an alpha tile two; each grid has three and the transforms, and the colour grid what is present of the second colr and clli
+abbrev pub association-count : Panel → ℕ
+association-count p =
+    let turns = turn-count (p .metadata .orientation) in
+    5 * shape p .tiles + (3 + second-colr-count (p .colour .cicp) (p .colour .icc) + cond (has (p .metadata .light)) 1 0 + turns) + (3 + turns)
+    + gain-association-count turns (p .gain)
+
+abbrev pub ipma-size : Form → Panel → ℕ
+ipma-size f p = 8 + pictures (shape p) * (1 + f .id) + association-count p
