@@ -1,7 +1,8 @@
 -- Laws of lists that the library does not have: cancelling fronts of equal length, a choice of two, sums, and lists printed element by element.
 use mathlib.Core.Path.{_≡_, refl, sym, ap, _∙_}
 use mathlib.Core.Bool.{Bool, true, false, cond}
-use mathlib.Core.List.{List, [], _∷_, _++_, map, flatten, flatMap, append-assoc}
+use mathlib.Core.Bool.{Bool, true, false, cond}
+use mathlib.Core.List.{List, [], _∷_, _++_, map, flatten, flatMap, append-assoc, append-nil}
 use Prim.Native.Nat.{ℕ, _+_, _*_, _≤_, _<_}
 use native.Mathlib.Nat.{zero-mul, suc-mul}
 use native.Mathlib.Numerals.{add-one}
@@ -28,6 +29,13 @@ pub length-cond : {A : Type 0} (b : Bool) (x y : List A) → length (cond b x y)
 length-cond true x y = refl
 length-cond false x y = refl
 
+-- ---- choices
+
+-- a number or nothing, as so many times one or nothing
+pub cond-mul : (b : Bool) (n : ℕ) → cond b n 0 ≡ n * cond b 1 0
+cond-mul true n = omega arith
+cond-mul false n = omega arith
+
 -- ---- sums
 
 pub total-append : (x y : List ℕ) → total (x ++ y) ≡ total x + total y
@@ -52,6 +60,10 @@ unfolding flatten
 flatten-append [] m = refl
 flatten-append (x ∷ l) m = ap (λ (r : List ℕ). x ++ r) (flatten-append l m) ∙ sym (append-assoc x (flatten l) (flatten m))
 
+pub flatten-one : (x : List ℕ) → flatten (x ∷ []) ≡ x
+unfolding flatten
+flatten-one x = append-nil x
+
 -- lists of equal lengths are told apart by what they join to
 pub flatten-inj : (l m : List (List ℕ)) → map length l ≡ map length m → flatten l ≡ flatten m → l ≡ m
 unfolding flatten
@@ -66,6 +78,15 @@ flatten-inj (a ∷ l) (b ∷ m) n e =
     λ i. r .0 i ∷ w i
 
 -- ---- elements printed one after the other, each in k bytes
+
+pub flatMap-one : {A : Type 0} (print : A → List ℕ) (a : A) → flatMap print (a ∷ []) ≡ print a
+unfolding flatMap
+flatMap-one print a = append-nil (print a)
+
+pub flatMap-map : {A B : Type 0} (print : B → List ℕ) (make : A → B) (l : List A) → flatMap print (map make l) ≡ flatMap (λ a. print (make a)) l
+unfolding flatMap
+flatMap-map print make [] = refl
+flatMap-map print make (a ∷ l) = ap (λ (r : List ℕ). print (make a) ++ r) (flatMap-map print make l)
 
 module _ {A : Type 0} (print : A → List ℕ) where
   pub flatMap-append : (l m : List A) → flatMap print (l ++ m) ≡ flatMap print l ++ flatMap print m

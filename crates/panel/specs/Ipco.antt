@@ -28,17 +28,19 @@ first-colr (some c) icc = nclx-payload c
 first-colr none (some i) = text "prof" ‖ i
 first-colr none none = nclx-payload unspecified
 
+abbrev pub profile : Option (List ℕ) → Option (List ℕ)
+profile none = none
+profile (some i) = some (text "prof" ‖ i)
+
 -- a profile beside code points
 abbrev pub second-colr : Option Cicp → Option (List ℕ) → Option (List ℕ)
-second-colr (some c) (some i) = some (text "prof" ‖ i)
-second-colr (some c) none = none
+second-colr (some c) icc = profile icc
 second-colr none icc = none
 
 -- an alternate colour writes what it states
 abbrev pub alternate-colrs : Option Cicp → Option (List ℕ) → List Box
-alternate-colrs (some c) icc = box "colr" (nclx-payload c) ∷ optional "colr" (second-colr (some c) icc)
-alternate-colrs none (some i) = box "colr" (text "prof" ‖ i) ∷ []
-alternate-colrs none none = []
+alternate-colrs (some c) icc = box "colr" (nclx-payload c) ∷ optional "colr" (profile icc)
+alternate-colrs none icc = optional "colr" (profile icc)
 
 abbrev pub alternates : Option Colour → List Box
 alternates none = []
@@ -79,33 +81,30 @@ pub data Role : Type 0 where
   hvcC-gain ispe-gain pixi-gain auxC-gain colr-gain ispe-tone pixi-tone colr-tone : Role
   deriving Discrete as Role-discrete
 
-abbrev pub one : Box → List Box
-one b = b ∷ []
-
 abbrev pub tone-slots : Box → Box → Option (List ℕ) → Option Colour → List (Role × List Box)
 tone-slots size depth none alternate = []
-tone-slots size depth (some t) alternate = (ispe-tone, one size) ∷ (pixi-tone, one depth) ∷ (colr-tone, alternates alternate) ∷ []
+tone-slots size depth (some t) alternate = (ispe-tone, size ∷ []) ∷ (pixi-tone, depth ∷ []) ∷ (colr-tone, alternates alternate) ∷ []
 
 abbrev pub gain-slots : Box → Box → Option Gain → List (Role × List Box)
 gain-slots size depth none = []
 gain-slots size depth (some g) =
-    (hvcC-gain, one (box "hvcC" (g .config)))
-    ∷ (ispe-gain, one (ispe (g .width) (g .height)))
-    ∷ (pixi-gain, one (pixi 1 (bits (g .depth))))
-    ∷ (auxC-gain, one (auxC "urn:com:apple:photo:2020:aux:hdrgainmap"))
-    ∷ (colr-gain, one (box "colr" (nclx-payload (g .cicp))))
+    (hvcC-gain, box "hvcC" (g .config) ∷ [])
+    ∷ (ispe-gain, ispe (g .width) (g .height) ∷ [])
+    ∷ (pixi-gain, pixi 1 (bits (g .depth)) ∷ [])
+    ∷ (auxC-gain, auxC "urn:com:apple:photo:2020:aux:hdrgainmap" ∷ [])
+    ∷ (colr-gain, box "colr" (nclx-payload (g .cicp)) ∷ [])
     ∷ tone-slots size depth (g .tone) (g .alternate)
 
 abbrev pub slots : Panel → List (Role × List Box)
 slots p =
-    (hvcC-colour, one (box "hvcC" (p .tiles .config)))
-    ∷ (ispe-tile, one (ispe (p .dims .«tile_w») (p .dims .«tile_h»)))
-    ∷ (ispe-whole, one (ispe (p .dims .«full_w») (p .dims .«full_h»)))
-    ∷ (colr-first, one (box "colr" (first-colr (p .colour .cicp) (p .colour .icc))))
-    ∷ (pixi-colour, one (pixi 3 (bits (p .depth))))
-    ∷ (hvcC-alpha, one (box "hvcC" (p .alpha .config)))
-    ∷ (pixi-alpha, one (pixi 1 (bits (p .depth))))
-    ∷ (auxC-alpha, one (auxC "urn:mpeg:hevc:2015:auxid:1"))
+    (hvcC-colour, box "hvcC" (p .tiles .config) ∷ [])
+    ∷ (ispe-tile, ispe (p .dims .«tile_w») (p .dims .«tile_h») ∷ [])
+    ∷ (ispe-whole, ispe (p .dims .«full_w») (p .dims .«full_h») ∷ [])
+    ∷ (colr-first, box "colr" (first-colr (p .colour .cicp) (p .colour .icc)) ∷ [])
+    ∷ (pixi-colour, pixi 3 (bits (p .depth)) ∷ [])
+    ∷ (hvcC-alpha, box "hvcC" (p .alpha .config) ∷ [])
+    ∷ (pixi-alpha, pixi 1 (bits (p .depth)) ∷ [])
+    ∷ (auxC-alpha, auxC "urn:mpeg:hevc:2015:auxid:1" ∷ [])
     ∷ (colr-second, optional "colr" (second-colr (p .colour .cicp) (p .colour .icc)))
     ∷ (irot, optional "irot" (irot-payload (irot-steps (p .metadata .orientation))))
     ∷ (imir, optional "imir" (imir-payload (imir-axis (p .metadata .orientation))))
