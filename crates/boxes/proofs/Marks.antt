@@ -1,0 +1,42 @@
+-- Positions printed one by one are the positions.
+use mathlib.Core.Path.{_≡_, refl, sym, ap, _∙_}
+use mathlib.Core.List.{List, [], _∷_, map, flatMap}
+use Prim.Native.Nat.{ℕ, _+_}
+use native.Mathlib.Nat.{zero-add}
+use lib.ListN.{length, length-append, length-map}
+use Rattle.octets.specs.Numbers.{_‖_, be}
+use Rattle.octets.proofs.Lists.{flatMap-one}
+use Rattle.panel.specs.Items.{ordinary}
+use Rattle.panel.specs.Ipma.{essential, _with_, association}
+use Rattle.panel.proofs.Ids.{length-ids-from}
+use Rattle.boxes.specs.Runs.{places}
+use Rattle.boxes.specs.declared.association.Run.{Run}
+
+pub marked-print : (mark : ℕ) (l : List ℕ) → flatMap (λ k. (mark + k) ∷ []) l ≡ map (λ k. mark + k) l
+unfolding flatMap
+marked-print mark [] = refl
+marked-print mark (k ∷ l) = ap (λ (r : List ℕ). (mark + k) ∷ r) (marked-print mark l)
+
+-- no mark
+pub unmarked : (l : List ℕ) → map (λ k. 0 + k) l ≡ l
+unmarked [] = refl
+unmarked (k ∷ l) = λ i. zero-add k i ∷ unmarked l i
+
+pub length-places : (r : Run) → length (places r) ≡ r .count
+length-places r = length-ids-from (r .first .0) (r .count)
+
+pub length-essential : (r : Run) → length (essential (places r)) ≡ r .count
+length-essential r = length-map (places r) (λ k. 128 + k) ∙ length-places r
+
+-- how many positions three runs have
+count-three : (a b c : Run) → length (essential (places a) ‖ essential (places b) ‖ essential (places c)) ≡ a .count + (b .count + c .count)
+count-three a b c = simp (length-append, length-essential)
+
+pub three-associated : (id : ℕ) (a b c : Run)
+    → be 2 id ‖ be 1 (a .count + (b .count + c .count)) ‖ essential (places a) ‖ essential (places b) ‖ essential (places c)
+    ≡ association ordinary (id with essential (places a) ‖ essential (places b) ‖ essential (places c))
+three-associated id a b c = ap (λ (k : ℕ). be 2 id ‖ be 1 k ‖ essential (places a) ‖ essential (places b) ‖ essential (places c)) (sym (count-three a b c))
+
+-- one entry of ipma
+pub associated : {id count j : ℕ} (l : List ℕ) → id ≡ j → count ≡ length l → be 2 id ‖ be 1 count ‖ l ≡ flatMap (association ordinary) ((j with l) ∷ [])
+associated {j = j} l h k = (λ i. be 2 (h i) ‖ be 1 (k i) ‖ l) ∙ sym (flatMap-one (association ordinary) (j with l))

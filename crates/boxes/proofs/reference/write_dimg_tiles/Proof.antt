@@ -1,0 +1,21 @@
+-- The head, the grid, the count of its tiles, and their ids.
+use borrow.Author.Needs.{needs}
+use native.Mathlib.Omega.{arith}
+use mathlib.Core.Path.{refl, sym, ap}
+use Rattle.octets.proofs.Stores.{_▹_, told, boxed, retold}
+use Rattle.panel.proofs.Ids.{length-ids-from}
+use Rattle.octets.specs.Numbers.{be}
+use Rattle.boxes.proofs.reference.write_dimg_tiles.Statement.{statement}
+use Rattle.boxes.proofs.reference.write_dimg_tiles.Tie as tie
+
+returns : tie.Need-returns
+returns c =
+    let c4 = c .before .before in
+    let c3 = c4 .before .before .before .before in
+    let c2 = c3 .before .before .before .before in
+    let c1 = c2 .before .before .before .before in
+    let start = c1 .before .before .before .before in
+    retold (boxed "dimg" (c1 .write-box .ensures) ((c2 .write-id .ensures) ▹ told (c3 .write-count .ensures) (ap (be 2) (sym (length-ids-from (start .args .first .0) (start .args .n)))) refl ▹ (c4 .write-ids .ensures)) (omega arith)) refl (omega arith)
+
+pub write-dimg-tiles-spec : {M : Type 1} → statement M
+write-dimg-tiles-spec = tie.close (tie.spec (λ c. search needs) (λ c. search needs) (λ c κs. search needs) (λ c κs. search needs) (λ c κs. search needs) (λ c κs. search needs) (λ c. search needs) returns)

@@ -1,0 +1,22 @@
+-- The property positions that a run of the code stands for.
+use mathlib.Core.Path.{_≡_}
+use mathlib.Core.Bool.{true}
+use mathlib.Core.List.{List}
+use Prim.Native.Nat.{ℕ, _+_, _≤_}
+use Rattle.panel.specs.Items.{ids-from}
+use Rattle.panel.specs.Refusal.{last-id}
+use Rattle.panel.specs.declared.Shape.{Shape}
+use Rattle.boxes.specs.declared.association.Run.{Run}
+
+abbrev pub places : Run → List ℕ
+places r = ids-from (r .first .0) (r .count)
+
+-- at most two positions, each of which leaves the highest of 8 bits free, as does the one behind them
+pub record Fitting (r : Run) : Type 0 where
+  pub most : r .first .0 + r .count ≤ 127
+  pub few : r .count ≤ 2
+
+-- a shape whose ids fit in 16 bits, and that has a tone map only with a gain map
+pub record Shaped (s : Shape) : Type 0 where
+  pub last : last-id s ≤ 65535
+  pub toned : s .tone ≡ true → s .gain ≡ true

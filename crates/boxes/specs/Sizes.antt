@@ -1,0 +1,74 @@
+-- How many bytes the boxes of a part take that may be absent: the numbers by which a caller reserves room.
+use mathlib.Core.Bool.{Bool, _&&_, not, cond}
+use mathlib.Core.Option.{Option, none, some}
+use mathlib.Core.List.{List}
+use Prim.Native.Nat.{ℕ, zero, suc, _+_, _≤_}
+use lib.ListN.{length}
+use Rattle.octets.specs.Numbers.{text}
+use Rattle.panel.specs.Panel.{Colour}
+use Rattle.panel.specs.Iloc.{wide}
+use Rattle.panel.specs.declared.GridDims.{GridDims}
+use Rattle.panel.specs.declared.color.Cicp.{Cicp}
+use Rattle.panel.specs.declared.metadata.ContentLightLevel.{ContentLightLevel}
+
+-- ---- colr
+
+abbrev pub first-colr-size : Option Cicp → Option (List ℕ) → ℕ
+first-colr-size (some c) icc = 19
+first-colr-size none (some i) = 12 + length i
+first-colr-size none none = 19
+
+abbrev pub profile-size : Option (List ℕ) → ℕ
+profile-size none = 0
+profile-size (some i) = 12 + length i
+
+abbrev pub second-colr-size : Option Cicp → Option (List ℕ) → ℕ
+second-colr-size (some c) icc = profile-size icc
+second-colr-size none icc = 0
+
+abbrev pub stated-size : Option Cicp → Option (List ℕ) → ℕ
+stated-size (some c) icc = 19 + profile-size icc
+stated-size none icc = profile-size icc
+
+abbrev pub alternates-size : Option Colour → ℕ
+alternates-size none = 0
+alternates-size (some a) = stated-size (a .cicp) (a .icc)
+
+-- ---- irot, imir, clli
+
+abbrev pub irot-size : ℕ → ℕ
+irot-size zero = 0
+irot-size (suc k) = 9
+
+abbrev pub imir-size : Option Bool → ℕ
+imir-size none = 0
+imir-size (some axis) = 9
+
+abbrev pub clli-size : Option ContentLightLevel → ℕ
+clli-size none = 0
+clli-size (some l) = 12
+
+-- ---- the descriptor of a grid, and ftyp
+
+abbrev pub descriptor-size : GridDims → ℕ
+descriptor-size d = cond (wide d) 12 8
+
+-- the sides of a grid that check 1 lets pass
+pub record Sided (d : GridDims) : Type 0 where
+  pub rows : 1 ≤ d .rows
+  pub rows-most : d .rows ≤ 256
+  pub cols : 1 ≤ d .cols
+  pub cols-most : d .cols ≤ 256
+
+-- sizes of 16 bits
+pub record Narrow (d : GridDims) : Type 0 where
+  pub width : d .«full_w» ≤ 65535
+  pub height : d .«full_h» ≤ 65535
+
+-- of a picture whose record is rext or not
+abbrev pub brand : Bool → List ℕ
+brand r = cond r (text "heix") (text "heic")
+
+-- the whole box
+abbrev pub ftyp-size : Bool → Bool → Bool → ℕ
+ftyp-size colour gain tone = 28 + cond (gain && not colour) 4 0 + cond tone 4 0

@@ -1,0 +1,126 @@
+// The entries of ipma, from runs of property positions.
+ghost use mathlib.Core.Path.{_≡_};
+ghost use mathlib.Core.List.{map, flatMap};
+ghost use Prim.Native.Nat.{_+_, _*_, _≤_};
+ghost use lib.ListN.{length};
+ghost use Rattle.octets.specs.Numbers.{_‖_, be};
+ghost use Rattle.octets.specs.Stores.{Wrote};
+ghost use Rattle.panel.specs.Items.{ordinary};
+ghost use Rattle.panel.specs.Ipma.{essential, _with_, each, association};
+ghost use Rattle.boxes.specs.Runs.{places, Fitting};
+use crate::ids::write_id;
+use octets::w8;
+use panel::ItemId;
+use panel::PropertyPosition;
+
+// The positions of the boxes of one role, one after the other: none, one or more.
+pub struct Run {
+    pub first: PropertyPosition,
+    pub count: u8,
+}
+
+// Writes the positions of a run, each with `mark` added.
+fn write_marked(out: &mut [u8], at: usize, run: Run, mark: u8) -> usize
+    requires { ⌜ at + run .count ≤ length (now out) ⌝ }
+    requires { ⌜ mark + (run .first .0 + run .count) ≤ 255 ⌝ }
+    ensures { λ r. ⌜ Wrote (now (out .entry)) at (run .count) (map (λ k. mark + k) (places run)) (now (out .exit)) r ⌝ }
+{
+    let mut left = run.count;
+    let mut a = at;
+    let mut position = run.first.0;
+    while 0 < left {
+        a = w8(out, a, mark + position);
+        position += 1;
+        left -= 1;
+    }
+    a
+}
+
+// Associations that are not essential.
+pub fn write_run(out: &mut [u8], at: usize, run: Run) -> usize
+    requires { ⌜ at + run .count ≤ length (now out) ⌝ }
+    requires { ⌜ Fitting run ⌝ }
+    ensures { λ r. ⌜ Wrote (now (out .entry)) at (run .count) (places run) (now (out .exit)) r ⌝ }
+{
+    write_marked(out, at, run, 0)
+}
+
+// Essential associations.
+pub fn write_essential(out: &mut [u8], at: usize, run: Run) -> usize
+    requires { ⌜ at + run .count ≤ length (now out) ⌝ }
+    requires { ⌜ Fitting run ⌝ }
+    ensures { λ r. ⌜ Wrote (now (out .entry)) at (run .count) (essential (places run)) (now (out .exit)) r ⌝ }
+{
+    write_marked(out, at, run, 128)
+}
+
+// The head of an entry: the item's id and the count of its associations.
+pub fn write_association_head(out: &mut [u8], at: usize, id: ItemId, count: u8) -> usize
+    requires { ⌜ at + 3 ≤ length (now out) ⌝ }
+    ensures { λ r. ⌜ Wrote (now (out .entry)) at 3 (be 2 (id .0) ‖ be 1 count) (now (out .exit)) r ⌝ }
+{
+    let a = write_id(out, at, id);
+    w8(out, a, count)
+}
+
+// A tile's entry: three roles, all essential.
+pub fn write_tile_association(
+    out: &mut [u8],
+    at: usize,
+    id: ItemId,
+    one: Run,
+    two: Run,
+    three: Run,
+) -> usize
+    requires { ⌜ at + (3 + (one .count + (two .count + three .count))) ≤ length (now out) ⌝ }
+    requires { ⌜ one .count + (two .count + three .count) ≤ 255 ⌝ }
+    requires { ⌜ Fitting one ⌝ }
+    requires { ⌜ Fitting two ⌝ }
+    requires { ⌜ Fitting three ⌝ }
+    ensures { λ r. ⌜ Wrote (now (out .entry)) at (3 + (one .count + (two .count + three .count))) (association ordinary (id .0 with essential (places one) ‖ essential (places two) ‖ essential (places three))) (now (out .exit)) r ⌝ }
+{
+    let a = write_association_head(out, at, id, one.count + (two.count + three.count));
+    let b = write_essential(out, a, one);
+    let c = write_essential(out, b, two);
+    write_essential(out, c, three)
+}
+
+// The entries of n tiles from `first` on.
+pub fn write_tile_associations(
+    out: &mut [u8],
+    at: usize,
+    first: ItemId,
+    n: u32,
+    one: Run,
+    two: Run,
+    three: Run,
+) -> usize
+    requires { ⌜ at + (3 + (one .count + (two .count + three .count))) * n ≤ length (now out) ⌝ }
+    requires { ⌜ first .0 + n ≤ 65535 ⌝ }
+    requires { ⌜ one .count + (two .count + three .count) ≤ 255 ⌝ }
+    requires { ⌜ Fitting one ⌝ }
+    requires { ⌜ Fitting two ⌝ }
+    requires { ⌜ Fitting three ⌝ }
+    ensures { λ r. ⌜ Wrote (now (out .entry)) at ((3 + (one .count + (two .count + three .count))) * n) (flatMap (association ordinary) (each (first .0) n (essential (places one) ‖ essential (places two) ‖ essential (places three)))) (now (out .exit)) r ⌝ }
+{
+    let mut left = n;
+    let mut a = at;
+    let mut id = first.0;
+    while 0 < left {
+        a = write_tile_association(out, a, ItemId(id), one, two, three);
+        id += 1;
+        left -= 1;
+    }
+    a
+}
+
+// The transforms: irot, then imir, both essential.
+pub fn write_turns(out: &mut [u8], at: usize, irot: Run, imir: Run) -> usize
+    requires { ⌜ at + (irot .count + imir .count) ≤ length (now out) ⌝ }
+    requires { ⌜ Fitting irot ⌝ }
+    requires { ⌜ Fitting imir ⌝ }
+    ensures { λ r. ⌜ Wrote (now (out .entry)) at (irot .count + imir .count) (essential (places irot) ‖ essential (places imir)) (now (out .exit)) r ⌝ }
+{
+    let a = write_essential(out, at, irot);
+    write_essential(out, a, imir)
+}

@@ -1,0 +1,108 @@
+// Item ids, made from the shape of the file, and written by a leaf of their own.
+ghost use mathlib.Core.Path.{_≡_};
+ghost use mathlib.Core.Bool.{cond};
+ghost use Prim.Native.Nat.{_+_, _*_, _≤_};
+ghost use lib.ListN.{length};
+ghost use mathlib.Core.List.{flatMap};
+ghost use Rattle.octets.specs.Numbers.{be};
+ghost use Rattle.octets.specs.Stores.{Wrote};
+ghost use Rattle.panel.specs.Items.{ids-from, colour-grid, alpha-tile, alpha-grid, exif-id, gain-id};
+ghost use Rattle.panel.specs.Refusal.{last-id};
+use octets::w16;
+use panel::ItemId;
+use panel::Shape;
+
+// Writes an id.
+pub fn write_id(out: &mut [u8], at: usize, id: ItemId) -> usize
+    requires { ⌜ at + 2 ≤ length (now out) ⌝ }
+    ensures { λ r. ⌜ Wrote (now (out .entry)) at 2 (be 2 (id .0)) (now (out .exit)) r ⌝ }
+{
+    w16(out, at, id.0)
+}
+
+// Writes n ids from `first` on.
+pub fn write_ids(out: &mut [u8], at: usize, first: ItemId, n: u32) -> usize
+    requires { ⌜ at + 2 * n ≤ length (now out) ⌝ }
+    requires { ⌜ first .0 + n ≤ 65535 ⌝ }
+    ensures { λ r. ⌜ Wrote (now (out .entry)) at (2 * n) (flatMap (be 2) (ids-from (first .0) n)) (now (out .exit)) r ⌝ }
+{
+    let mut left = n;
+    let mut a = at;
+    let mut id = first.0;
+    while 0 < left {
+        a = write_id(out, a, ItemId(id));
+        id += 1;
+        left -= 1;
+    }
+    a
+}
+
+// Writes a count of items, which takes as many bits as an id.
+pub fn write_count(out: &mut [u8], at: usize, n: u32) -> usize
+    requires { ⌜ at + 2 ≤ length (now out) ⌝ }
+    requires { ⌜ n ≤ 65535 ⌝ }
+    ensures { λ r. ⌜ Wrote (now (out .entry)) at 2 (be 2 n) (now (out .exit)) r ⌝ }
+{
+    w16(out, at, n as u16)
+}
+
+// 1 for yes, 0 for no.
+pub fn count_of(b: bool) -> u32
+    ensures { λ r. ⌜ r ≡ cond b 1 0 ⌝ }
+{
+    if b { 1 } else { 0 }
+}
+
+// The id that stands k behind another.
+pub fn behind(id: ItemId, k: u16) -> ItemId
+    requires { ⌜ id .0 + k ≤ 65535 ⌝ }
+    ensures { λ r. ⌜ r .0 ≡ id .0 + k ⌝ }
+{
+    ItemId(id.0 + k)
+}
+
+pub fn color_grid_id(s: Shape) -> ItemId
+    requires { ⌜ last-id s ≤ 65535 ⌝ }
+    ensures { λ r. ⌜ r .0 ≡ colour-grid s ⌝ }
+{
+    ItemId((s.tiles + 1) as u16)
+}
+
+// The first alpha tile's id.
+pub fn alpha_tile_base(s: Shape) -> ItemId
+    requires { ⌜ last-id s ≤ 65535 ⌝ }
+    ensures { λ r. ⌜ r .0 ≡ alpha-tile s ⌝ }
+{
+    ItemId((s.tiles + 2) as u16)
+}
+
+pub fn alpha_grid_id(s: Shape) -> ItemId
+    requires { ⌜ last-id s ≤ 65535 ⌝ }
+    ensures { λ r. ⌜ r .0 ≡ alpha-grid s ⌝ }
+{
+    ItemId((2 * s.tiles + 2) as u16)
+}
+
+// The first id behind the alpha grid's: the Exif's, where it is present. Its number may be one more than an id can hold.
+pub fn exif_number(s: Shape) -> u32
+    requires { ⌜ last-id s ≤ 65535 ⌝ }
+    ensures { λ r. ⌜ r ≡ exif-id s ⌝ }
+{
+    2 * s.tiles + 3
+}
+
+// The gain image's number, where it is present.
+pub fn gain_number(s: Shape) -> u32
+    requires { ⌜ last-id s ≤ 65535 ⌝ }
+    ensures { λ r. ⌜ r ≡ gain-id s ⌝ }
+{
+    exif_number(s) + count_of(s.exif)
+}
+
+// A number as an id.
+pub fn item_id(n: u32) -> ItemId
+    requires { ⌜ n ≤ 65535 ⌝ }
+    ensures { λ r. ⌜ r .0 ≡ n ⌝ }
+{
+    ItemId(n as u16)
+}
