@@ -1,0 +1,15 @@
+-- By the variant.
+use borrow.Author.Needs.{needs}
+use Rattle.checks.proofs.shape.has_gain.Statement.{statement}
+use Rattle.checks.proofs.shape.has_gain.Tie as tie
+
+returns : tie.Need-returns
+returns c =
+    λ l. rw (c .enum-told .given .1)
+
+returns-2 : tie.Need-returns-2
+returns-2 c =
+    λ l. rw (c .enum-told2 .given .1)
+
+pub has-gain-spec : {M : Type 1} → statement M
+has-gain-spec = tie.close (tie.spec (λ c. search needs) (λ c. search needs) returns returns-2)

@@ -1,0 +1,90 @@
+// Which items a file has, and which parts are present.
+ghost use mathlib.Core.Path.{_≡_};
+ghost use mathlib.Core.List.{List};
+ghost use mathlib.Core.Bool.{cond};
+ghost use Prim.Native.Nat.{ℕ, _≤_};
+ghost use lib.ListN.{length};
+ghost use Rattle.panel.specs.Of.{Lent, panel-of, part, cicp-of, gain-of};
+ghost use Rattle.panel.specs.Items.{has, tone-of, shape};
+ghost use Rattle.panel.specs.Refusal.{last-id};
+use panel::Panel;
+use panel::Shape;
+use panel::color::MaybeCicp;
+use panel::color::Part;
+use panel::gain_map::MaybeGainMap;
+
+// Whether a byte part belongs to the panel.
+pub fn is_present(p: Part) -> bool
+    ensures { λ r. ⌜ ((x : List ℕ) → r ≡ has (part p x)) ⌝ }
+{
+    match p {
+        Part::Absent => false,
+        Part::Present => true,
+    }
+}
+
+// Whether a colour is stated by code points.
+pub fn has_cicp(cicp: MaybeCicp) -> bool
+    ensures { λ r. ⌜ r ≡ has (cicp-of cicp) ⌝ }
+{
+    match cicp {
+        MaybeCicp::Some(_) => true,
+        MaybeCicp::None => false,
+    }
+}
+
+// Whether there is a gain map.
+pub fn has_gain(gain: MaybeGainMap) -> bool
+    ensures { λ r. ⌜ ((l : Lent) → r ≡ has (gain-of gain l)) ⌝ }
+{
+    match gain {
+        MaybeGainMap::Some(_) => true,
+        MaybeGainMap::None => false,
+    }
+}
+
+// Whether there is a tone map.
+pub fn has_tone(gain: MaybeGainMap) -> bool
+    ensures { λ r. ⌜ ((l : Lent) → r ≡ has (tone-of (gain-of gain l))) ⌝ }
+{
+    match gain {
+        MaybeGainMap::Some(g) => {
+            let tmap = g.tmap;
+            is_present(tmap)
+        }
+        MaybeGainMap::None => false,
+    }
+}
+
+// The shape of a panel with so many tiles.
+pub fn shape_of(panel: Panel, tiles: u32) -> Shape
+    ensures { λ r. ⌜ ((l : Lent) → length (l .tiles .lengths) ≡ tiles → r ≡ shape (panel-of panel l)) ⌝ }
+    ensures { λ r. ⌜ r .tiles ≡ tiles ⌝ }
+{
+    let metadata = panel.metadata;
+    let exif = metadata.exif;
+    let gain = panel.gain_map;
+    Shape {
+        tiles,
+        exif: is_present(exif),
+        gain: has_gain(gain),
+        tone: has_tone(gain),
+    }
+}
+
+// A number if so, else 0.
+pub fn when(b: bool, n: u32) -> u32
+    ensures { λ r. ⌜ r ≡ cond b n 0 ⌝ }
+    ensures { λ r. ⌜ r ≤ n ⌝ }
+{
+    if b { n } else { 0 }
+}
+
+// The last item id, which check 4 wants to fit in 16 bits.
+pub fn last_id(s: Shape) -> u32
+    requires { ⌜ s .tiles ≤ 65536 ⌝ }
+    ensures { λ r. ⌜ r ≡ last-id s ⌝ }
+    ensures { λ r. ⌜ r ≤ 131078 ⌝ }
+{
+    2 * s.tiles + 2 + when(s.exif, 1) + when(s.gain, 2) + when(s.tone, 1)
+}

@@ -1,0 +1,129 @@
+-- What the checks found, as the answer of the length call.
+use mathlib.Core.Path.{_≡_, refl, sym, ap, _∙_}
+use mathlib.Core.Bool.{Bool, true, false, _||_}
+use mathlib.Core.List.{List, [], _∷_}
+use Prim.Native.Nat.{ℕ, _*_, _≤_, _<_}
+use native.Mathlib.Nat.{mul-le-mul}
+use native.Mathlib.Omega.{arith}
+use lib.Dec.{ltb, eqb}
+use lib.ListN.{length}
+use borrow.Author.Tests.{lt-ltb, le-ltb, le-leb, lt-leb, ltb-false, eqb-true, not-false}
+use Rattle.panel.specs.Panel.{Panel}
+use Rattle.panel.specs.Of.{Lent, panel-of}
+use Rattle.panel.specs.Items.{ordinary, shape}
+use Rattle.panel.specs.File.{file}
+use Rattle.panel.specs.Refusal.{bad-side, bad-grid, differ, bad-counts, bad-sum, last-id, Check, first, checks, refusal}
+use Rattle.panel.specs.Answer.{made, refused, outcome, length-answer}
+use Rattle.panel.specs.declared.Panel.{Panel as Numbers}
+use Rattle.panel.specs.declared.Shape.{Shape}
+use Rattle.length.specs.Parts.{Even}
+use Rattle.length.specs.Size.{size}
+use Rattle.length.proofs.File.{length-file}
+use Rattle.layout.specs.Capped.{Capped}
+
+-- ---- a list of checks
+
+-- what is left to check decides
+record Left (p : Panel) (l : List Check) : Type 0 where
+  decides : refusal ordinary p ≡ first l
+
+all : (p : Panel) → Left p (checks ordinary (length (file ordinary p)) p)
+unfolding refusal
+all p = record { decides = refl }
+
+pass : {p : Panel} {c : Check} {l : List Check} → Left p (c ∷ l) → c .holds tt ≡ false → Left p l
+pass {p} {c} {l} s e = record { decides = s .decides ∙ ap (λ (b : Bool). elim b [ true ↦ c .number | false ↦ first l ]) e }
+
+stop : {p : Panel} {c : Check} {l : List Check} → Left p (c ∷ l) → c .holds tt ≡ true → refusal ordinary p ≡ c .number
+stop {p} {c} {l} s e = s .decides ∙ ap (λ (b : Bool). elim b [ true ↦ c .number | false ↦ first l ]) e
+
+-- the answer by the number of the refusal
+answered : (p : Panel) {k : ℕ} → refusal ordinary p ≡ k → outcome k (length (file ordinary p)) ≡ length-answer ordinary p
+unfolding length-answer
+answered p e = sym (ap (λ (k : ℕ). outcome k (length (file ordinary p))) e)
+
+-- ---- what a test that did not hold says
+
+or-false : (a b : Bool) → (a || b) ≡ false → (a ≡ false) × (b ≡ false)
+or-false true b e = absurd (let z : _≡_ {A = ℕ} 0 1 = cc in omega arith)
+or-false false b e = (refl, e)
+
+side-most : (n : ℕ) → bad-side n ≡ false → n ≤ 256
+side-most n e = ltb-false 256 n (or-false (ltb n 1) (ltb 256 n) e .1)
+
+same : (m n : ℕ) → differ m n ≡ false → m ≡ n
+same m n e = eqb-true m n (not-false (eqb m n) e)
+
+-- a grid has at most 65,536 tiles
+pub few : (rows cols t a : ℕ) → bad-grid rows cols ≡ false → bad-counts (rows * cols) t a ≡ false → t ≤ 65536
+few rows cols t a e f =
+    let sides = or-false (bad-side rows) (bad-side cols) e in
+    let counts = or-false (differ t (rows * cols)) (differ a (rows * cols)) f in
+    omega (arith, same t (rows * cols) (counts .0), mul-le-mul (side-most rows (sides .0)) (side-most cols (sides .1)))
+
+-- ---- the checks of a panel that is lent, by what the code tests
+
+module _ (n : Numbers) (l : Lent) where
+  abbrev pub Sides : Bool → Type 0
+  Sides b = bad-grid (n .dims .rows) (n .dims .cols) ≡ b
+
+  abbrev pub Counts : Bool → Type 0
+  Counts b = bad-counts (n .dims .rows * n .dims .cols) (length (l .tiles .lengths)) (length (l .alpha .lengths)) ≡ b
+
+  abbrev pub Sums : Bool → Type 0
+  Sums b = (bad-sum (l .tiles) || bad-sum (l .alpha)) ≡ b
+
+  -- the first three checks do not hold
+  pub record Passed : Type 0 where
+    pub sides : Sides false
+    pub counts : Counts false
+    pub sums : Sums false
+
+  pub stop-1 : Sides true → refused 1 ≡ length-answer ordinary (panel-of n l)
+  unfolding panel-of
+  stop-1 a = answered _ (stop (all (panel-of n l)) a)
+
+  pub stop-2 : Sides false → Counts true → refused 2 ≡ length-answer ordinary (panel-of n l)
+  unfolding panel-of
+  stop-2 a b = answered _ (stop (pass (all (panel-of n l)) a) b)
+
+  pub stop-3 : Sides false → Counts false → Sums true → refused 3 ≡ length-answer ordinary (panel-of n l)
+  unfolding panel-of
+  stop-3 a b c = answered _ (stop (pass (pass (all (panel-of n l)) a) b) c)
+
+  module _ (h : Passed) where
+    -- both pictures have as many tiles, whose lengths sum to what is lent
+    pub even : Even (panel-of n l)
+    unfolding panel-of
+    even =
+        let k = n .dims .rows * n .dims .cols in
+        let counts = or-false (differ (length (l .tiles .lengths)) k) (differ (length (l .alpha .lengths)) k) (h .counts) in
+        let sums = or-false (bad-sum (l .tiles)) (bad-sum (l .alpha)) (h .sums) in
+        record { counts = same _ _ (counts .1) ∙ sym (same _ _ (counts .0)); sum = same _ _ (sums .0); alpha-sum = same _ _ (sums .1) }
+
+    -- s is the shape of the panel
+    module _ {s : Shape} (e : s ≡ shape (panel-of n l)) where
+      pub stop-4 : 65535 < last-id s → refused 4 ≡ length-answer ordinary (panel-of n l)
+      unfolding panel-of
+      stop-4 d =
+          let id = last-id (shape (panel-of n l)) in
+          answered _ (stop (pass (pass (pass (all (panel-of n l)) (h .sides)) (h .counts)) (h .sums)) (le-leb 65536 id (omega (arith, ap last-id e))))
+
+      behind-4 : last-id s ≤ 65535 → Left (panel-of n l) (record { number = 5; holds = λ _. ltb 4294967295 (length (file ordinary (panel-of n l))) } ∷ [])
+      unfolding panel-of
+      behind-4 d =
+          let id = last-id (shape (panel-of n l)) in
+          pass (pass (pass (pass (all (panel-of n l)) (h .sides)) (h .counts)) (h .sums)) (lt-leb 65536 id (omega (arith, ap last-id e)))
+
+      -- r stands for the file's length
+      module _ (d : last-id s ≤ 65535) {r : ℕ} (c : Capped 4294967296 r (size ordinary (panel-of n l))) where
+        pub stop-5 : 4294967295 < r → refused 5 ≡ length-answer ordinary (panel-of n l)
+        stop-5 f =
+            let p = panel-of n l in
+            answered _ (stop (behind-4 d) (lt-ltb 4294967295 (length (file ordinary p)) (omega (arith, length-file ordinary p even, c .below))))
+
+        pub done : r ≤ 4294967295 → made r ≡ length-answer ordinary (panel-of n l)
+        done f =
+            let p = panel-of n l in
+            let k : r ≡ length (file ordinary p) = c .whole (omega arith) ∙ sym (length-file ordinary p even) in
+            ap made k ∙ answered p (pass (behind-4 d) (le-ltb 4294967295 (length (file ordinary p)) (omega arith)) .decides)

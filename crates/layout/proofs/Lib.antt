@@ -1,0 +1,3 @@
+pub mod Caps
+pub mod Answers
+pub mod Exact

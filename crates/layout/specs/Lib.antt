@@ -1,0 +1,4 @@
+pub mod Lent
+pub mod Capped
+pub mod Sized
+pub mod Laid

@@ -1,0 +1,198 @@
+// The length of a panel's file, and where each of its boxes lies: computed from lengths alone, before anything is written.
+
+pub mod lengths;
+pub mod properties;
+pub mod sizes;
+
+ghost use mathlib.Core.Path.{_≡_};
+ghost use Rattle.panel.specs.Of.{panel-of};
+ghost use Rattle.panel.specs.Items.{ordinary};
+ghost use Rattle.panel.specs.Refusal.{refusal};
+ghost use Rattle.panel.specs.Widths.{Fits};
+ghost use Rattle.panel.specs.Answer.{says, length-answer};
+ghost use Rattle.layout.specs.Lent.{lent};
+ghost use Rattle.layout.specs.Laid.{Laid, Given, Within};
+use crate::lengths::gain_lengths;
+use crate::lengths::lengths_of;
+use crate::sizes::Sizes;
+use crate::sizes::file_size;
+use crate::sizes::gain_uses_rext;
+use crate::sizes::sizes_of;
+use boxes::ftyp::hvcc_uses_rext;
+use boxes::meta::descriptor_length;
+use checks::bad_counts;
+use checks::bad_grid;
+use checks::bad_sums;
+use checks::fits::numbers_fit;
+use checks::shape::last_id;
+use checks::shape::shape_of;
+use panel::Answer;
+use panel::Panel;
+use panel::Refusal;
+use panel::Shape;
+
+// Where each box of a file lies: which items it has, the length of a grid's descriptor, the whole size of each box, the offsets where the
+// colour samples, the alpha samples and the payloads behind them begin, and whether the records are of the range extensions' profile.
+pub struct Layout {
+    pub shape: Shape,
+    pub descriptor: u32,
+    pub ftyp: u32,
+    pub meta: u32,
+    pub iloc: u32,
+    pub iinf: u32,
+    pub iref: u32,
+    pub iprp: u32,
+    pub ipco: u32,
+    pub ipma: u32,
+    pub idat: u32,
+    pub mdat: u32,
+    pub color_data: u32,
+    pub alpha_data: u32,
+    pub other_data: u32,
+    pub color_rext: bool,
+    pub gain_rext: bool,
+}
+
+// The length of a panel's file, or why it is refused: the checks 1 to 5 in their order, each with its own answer.
+pub fn file_length(
+    panel: Panel,
+    color_hvcc: &[u8],
+    alpha_hvcc: &[u8],
+    color_lengths: &[u32],
+    alpha_lengths: &[u32],
+    color_samples: &[u8],
+    alpha_samples: &[u8],
+    icc: &[u8],
+    exif: &[u8],
+    gain_hvcc: &[u8],
+    gain_sample: &[u8],
+    gain_xmp: &[u8],
+    gain_tmap: &[u8],
+    alternate_icc: &[u8],
+) -> Answer
+    ensures { λ r. ⌜ says r ≡ length-answer ordinary (panel-of panel (lent (now («color_hvcc» .entry)) (now («alpha_hvcc» .entry)) (now («color_lengths» .entry)) (now («alpha_lengths» .entry)) (now («color_samples» .entry)) (now («alpha_samples» .entry)) (now (icc .entry)) (now (exif .entry)) (now («gain_hvcc» .entry)) (now («gain_sample» .entry)) (now («gain_xmp» .entry)) (now («gain_tmap» .entry)) (now («alternate_icc» .entry)))) ⌝ }
+    ensures { λ r. ⌜ Fits (panel-of panel (lent (now («color_hvcc» .entry)) (now («alpha_hvcc» .entry)) (now («color_lengths» .entry)) (now («alpha_lengths» .entry)) (now («color_samples» .entry)) (now («alpha_samples» .entry)) (now (icc .entry)) (now (exif .entry)) (now («gain_hvcc» .entry)) (now («gain_sample» .entry)) (now («gain_xmp» .entry)) (now («gain_tmap» .entry)) (now («alternate_icc» .entry)))) ⌝ }
+{
+    let fits = numbers_fit(panel);
+    let dims = panel.dims;
+    let gain = panel.gain_map;
+    if bad_grid(dims.rows, dims.cols) {
+        return Answer::Refused(Refusal::GridSide);
+    }
+    if bad_counts(
+        dims.rows,
+        dims.cols,
+        color_lengths.len() as u64,
+        alpha_lengths.len() as u64,
+    ) {
+        return Answer::Refused(Refusal::TileCount);
+    }
+    if bad_sums(color_lengths, alpha_lengths, color_samples, alpha_samples) {
+        return Answer::Refused(Refusal::SampleLengths);
+    }
+    let shape = shape_of(panel, color_lengths.len() as u32);
+    if 65535 < last_id(shape) {
+        return Answer::Refused(Refusal::ItemIds);
+    }
+    let gains = gain_lengths(gain_hvcc, gain_sample, gain_xmp, gain_tmap, alternate_icc);
+    let lengths = lengths_of(
+        color_hvcc,
+        alpha_hvcc,
+        color_samples,
+        alpha_samples,
+        icc,
+        exif,
+        gains,
+    );
+    let color_rext = hvcc_uses_rext(color_hvcc);
+    let gain_rext = gain_uses_rext(gain, gain_hvcc);
+    let size = file_size(sizes_of(panel, shape, lengths, color_rext, gain_rext));
+    if 4294967295 < size {
+        return Answer::Refused(Refusal::FileLength);
+    }
+    Answer::Length(size)
+}
+
+// The layout that sizes make, of a file with so many bytes of colour and alpha samples.
+fn placed(
+    z: Sizes,
+    shape: Shape,
+    descriptor: u32,
+    colors: usize,
+    alphas: usize,
+    color_rext: bool,
+    gain_rext: bool,
+) -> Layout
+    requires { ⌜ Within z colors alphas ⌝ }
+    ensures { λ r. ⌜ ((p : _) → Given p z shape descriptor colors alphas «color_rext» «gain_rext» → Laid p r) ⌝ }
+{
+    let color_data = z.ftyp as u64 + z.meta + 8;
+    let alpha_data = color_data + colors as u64;
+    let other_data = alpha_data + alphas as u64;
+    Layout {
+        shape,
+        descriptor,
+        ftyp: z.ftyp,
+        meta: z.meta as u32,
+        iloc: z.iloc,
+        iinf: z.iinf,
+        iref: z.iref,
+        iprp: z.iprp as u32,
+        ipco: z.ipco as u32,
+        ipma: z.ipma,
+        idat: z.idat,
+        mdat: z.mdat as u32,
+        color_data: color_data as u32,
+        alpha_data: alpha_data as u32,
+        other_data: other_data as u32,
+        color_rext,
+        gain_rext,
+    }
+}
+
+// The layout of an accepted panel's file.
+pub fn lay_out(
+    panel: Panel,
+    color_hvcc: &[u8],
+    alpha_hvcc: &[u8],
+    color_lengths: &[u32],
+    alpha_lengths: &[u32],
+    color_samples: &[u8],
+    alpha_samples: &[u8],
+    icc: &[u8],
+    exif: &[u8],
+    gain_hvcc: &[u8],
+    gain_sample: &[u8],
+    gain_xmp: &[u8],
+    gain_tmap: &[u8],
+    alternate_icc: &[u8],
+) -> Layout
+    requires { ⌜ refusal ordinary (panel-of panel (lent (now «color_hvcc») (now «alpha_hvcc») (now «color_lengths») (now «alpha_lengths») (now «color_samples») (now «alpha_samples») (now icc) (now exif) (now «gain_hvcc») (now «gain_sample») (now «gain_xmp») (now «gain_tmap») (now «alternate_icc»))) ≡ 0 ⌝ }
+    ensures { λ r. ⌜ Laid (panel-of panel (lent (now («color_hvcc» .entry)) (now («alpha_hvcc» .entry)) (now («color_lengths» .entry)) (now («alpha_lengths» .entry)) (now («color_samples» .entry)) (now («alpha_samples» .entry)) (now (icc .entry)) (now (exif .entry)) (now («gain_hvcc» .entry)) (now («gain_sample» .entry)) (now («gain_xmp» .entry)) (now («gain_tmap» .entry)) (now («alternate_icc» .entry)))) r ⌝ }
+{
+    let dims = panel.dims;
+    let gain = panel.gain_map;
+    let shape = shape_of(panel, color_lengths.len() as u32);
+    let gains = gain_lengths(gain_hvcc, gain_sample, gain_xmp, gain_tmap, alternate_icc);
+    let lengths = lengths_of(
+        color_hvcc,
+        alpha_hvcc,
+        color_samples,
+        alpha_samples,
+        icc,
+        exif,
+        gains,
+    );
+    let color_rext = hvcc_uses_rext(color_hvcc);
+    let gain_rext = gain_uses_rext(gain, gain_hvcc);
+    let sizes = sizes_of(panel, shape, lengths, color_rext, gain_rext);
+    placed(
+        sizes,
+        shape,
+        descriptor_length(dims),
+        color_samples.len(),
+        alpha_samples.len(),
+        color_rext,
+        gain_rext,
+    )
+}
