@@ -1,0 +1,39 @@
+-- The gain map's entries in iloc and ipma: the tone map's stand behind those of the gain image, and are absent without a gain map.
+use mathlib.Core.Path.{_≡_, refl, sym, _∙_}
+use mathlib.Core.Bool.{Bool, true, false}
+use mathlib.Core.List.{[], _∷_, _++_, flatMap}
+use Prim.Native.Nat.{ℕ, _+_}
+use native.Mathlib.Omega.{arith}
+use lib.ListN.{length, length-append}
+use Rattle.octets.specs.Numbers.{_‖_}
+use Rattle.panel.specs.Items.{ordinary, given, gain-id}
+use Rattle.panel.specs.Iloc.{entry, located}
+use Rattle.panel.specs.declared.Shape.{Shape}
+use Rattle.boxes.specs.Spans.{spans}
+use Rattle.boxes.specs.Runs.{Shaped}
+use Rattle.boxes.specs.declared.association.Run.{Run}
+use Rattle.boxes.proofs.Spans.{entries-append}
+use Rattle.boxes.proofs.Marks.{length-places, length-essential}
+use Rattle.gain_map.specs.Places.{image-count, image-list, tone-count, tone-list}
+use Rattle.gain_map.specs.declared.positions.ImagePlaces.{ImagePlaces}
+use Rattle.gain_map.specs.declared.positions.TonePlaces.{TonePlaces}
+
+pub tone-behind : (s : Shape) (o a b t : ℕ)
+    → flatMap (entry ordinary) (located (gain-id s) 0 (spans o (a ∷ b ∷ []))) ++ flatMap (entry ordinary) (located (gain-id s + 2) 0 (spans (o + a + b) (given (s .tone) (t ∷ []))))
+    ≡ flatMap (entry ordinary) (located (gain-id s) 0 (spans o ((a ∷ b ∷ []) ‖ given (s .tone) (t ∷ []))))
+tone-behind s o a b t = entries-append ordinary (gain-id s) o (a ∷ b ∷ []) (given (s .tone) (t ∷ [])) refl (omega arith)
+
+pub tone-absent : (s : Shape) → Shaped s → s .gain ≡ false → s .tone ≡ false
+tone-absent s h e = go (s .tone) (h .toned)
+  where
+    go : (b : Bool) → (b ≡ true → s .gain ≡ true) → b ≡ false
+    go true k = absurd (let f : false ≡ true = sym e ∙ k refl in let z : _≡_ {A = ℕ} 0 1 = cc in omega arith)
+    go false k = refl
+
+-- ---- how many associations there are
+
+pub length-image-list : (p : ImagePlaces) (irot imir : Run) → length (image-list p irot imir) ≡ image-count p irot imir
+length-image-list p irot imir = simp (length-append, length-essential, length-places)
+
+pub length-tone-list : (p : TonePlaces) → length (tone-list p) ≡ tone-count p
+length-tone-list p = simp (length-append, length-places)

@@ -1,0 +1,18 @@
+-- The gain image's entry and the tone map's.
+use borrow.Author.Needs.{needs}
+use mathlib.Core.Path.{refl, sym}
+use Rattle.octets.proofs.Stores.{_▹_, told}
+use Rattle.panel.specs.Items.{ordinary}
+use Rattle.octets.proofs.Lists.{flatMap-append}
+use Rattle.panel.specs.Ipma.{association}
+use Rattle.gain_map.proofs.association.write_ipma.Statement.{statement}
+use Rattle.gain_map.proofs.association.write_ipma.Tie as tie
+
+returns : tie.Need-returns
+returns c =
+    let c2 = c .before .before in
+    let c1 = c2 .before .before .before .before in
+    told ((c1 .write-image-association .ensures) ▹ (c2 .write-tone-association .ensures)) (sym (flatMap-append (association ordinary) _ _)) refl
+
+pub write-ipma-spec : {M : Type 1} → statement M
+write-ipma-spec = tie.close (tie.spec (λ c κs. search needs) (λ c κs. search needs) (λ c. search needs) returns)

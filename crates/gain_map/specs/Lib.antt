@@ -1,0 +1,4 @@
+pub mod Places
+pub mod Sizes
+pub mod Data
+pub mod Properties

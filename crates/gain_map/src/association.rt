@@ -1,0 +1,145 @@
+// The gain map's entries in ipma.
+ghost use mathlib.Core.Path.{_≡_};
+ghost use mathlib.Core.Bool.{true, cond};
+ghost use mathlib.Core.List.{[], _∷_, flatMap};
+ghost use Prim.Native.Nat.{_+_, _≤_};
+ghost use lib.ListN.{length};
+ghost use Rattle.octets.specs.Numbers.{_‖_};
+ghost use Rattle.octets.specs.Stores.{Wrote};
+ghost use Rattle.panel.specs.Items.{ordinary, given, gain-id};
+ghost use Rattle.panel.specs.Ipma.{_with_, association};
+ghost use Rattle.boxes.specs.Runs.{Fitting, Shaped};
+ghost use Rattle.gain_map.specs.Places.{Image-fits, image-count, image-list, Tone-fits, tone-count, tone-list};
+use crate::items::image_id;
+use crate::items::tmap_id;
+use crate::positions::ImagePlaces;
+use crate::positions::TonePlaces;
+use boxes::association::Run;
+use boxes::association::write_association_head;
+use boxes::association::write_essential;
+use boxes::association::write_run;
+use boxes::association::write_turns;
+use panel::Shape;
+
+// The gain image's properties and transforms, without the head of the entry.
+fn write_image_list(out: &mut [u8], at: usize, p: ImagePlaces, irot: Run, imir: Run) -> usize
+    requires { ⌜ at + image-count p irot imir ≤ length (now out) ⌝ }
+    requires { ⌜ Image-fits p ⌝ }
+    requires { ⌜ Fitting irot ⌝ }
+    requires { ⌜ Fitting imir ⌝ }
+    ensures { λ r. ⌜ Wrote (now (out .entry)) at (image-count p irot imir) (image-list p irot imir) (now (out .exit)) r ⌝ }
+{
+    let hvcc = p.hvcc;
+    let ispe = p.ispe;
+    let pixi = p.pixi;
+    let auxc = p.auxc;
+    let colr = p.colr;
+    let a = write_essential(out, at, hvcc);
+    let b = write_run(out, a, ispe);
+    let c = write_run(out, b, pixi);
+    let d = write_run(out, c, auxc);
+    let e = write_run(out, d, colr);
+    write_turns(out, e, irot, imir)
+}
+
+// How many associations the gain image has.
+fn image_count(p: ImagePlaces, irot: Run, imir: Run) -> u8
+    requires { ⌜ Image-fits p ⌝ }
+    requires { ⌜ Fitting irot ⌝ }
+    requires { ⌜ Fitting imir ⌝ }
+    ensures { λ r. ⌜ r ≡ image-count p irot imir ⌝ }
+{
+    let hvcc = p.hvcc;
+    let ispe = p.ispe;
+    let pixi = p.pixi;
+    let auxc = p.auxc;
+    let colr = p.colr;
+    hvcc.count
+        + (ispe.count + (pixi.count + (auxc.count + (colr.count + (irot.count + imir.count)))))
+}
+
+// The gain image's entry, where there is one.
+fn write_image_association(
+    out: &mut [u8],
+    at: usize,
+    s: Shape,
+    p: ImagePlaces,
+    irot: Run,
+    imir: Run,
+) -> usize
+    requires { ⌜ at + cond (s .gain) (3 + image-count p irot imir) 0 ≤ length (now out) ⌝ }
+    requires { ⌜ Shaped s ⌝ }
+    requires { ⌜ Image-fits p ⌝ }
+    requires { ⌜ Fitting irot ⌝ }
+    requires { ⌜ Fitting imir ⌝ }
+    ensures { λ r. ⌜ Wrote (now (out .entry)) at (cond (s .gain) (3 + image-count p irot imir) 0) (flatMap (association ordinary) (given (s .gain) ((gain-id s with image-list p irot imir) ∷ []))) (now (out .exit)) r ⌝ }
+{
+    if s.gain {
+        let id = image_id(s);
+        let a = write_association_head(out, at, id, image_count(p, irot, imir));
+        return write_image_list(out, a, p, irot, imir);
+    }
+    at
+}
+
+// The tone map's properties, without the head of the entry.
+fn write_tone_list(out: &mut [u8], at: usize, p: TonePlaces) -> usize
+    requires { ⌜ at + tone-count p ≤ length (now out) ⌝ }
+    requires { ⌜ Tone-fits p ⌝ }
+    ensures { λ r. ⌜ Wrote (now (out .entry)) at (tone-count p) (tone-list p) (now (out .exit)) r ⌝ }
+{
+    let ispe = p.ispe;
+    let pixi = p.pixi;
+    let colr = p.colr;
+    let a = write_run(out, at, ispe);
+    let b = write_run(out, a, pixi);
+    write_run(out, b, colr)
+}
+
+// How many associations the tone map has.
+fn tone_count(p: TonePlaces) -> u8
+    requires { ⌜ Tone-fits p ⌝ }
+    ensures { λ r. ⌜ r ≡ tone-count p ⌝ }
+{
+    let ispe = p.ispe;
+    let pixi = p.pixi;
+    let colr = p.colr;
+    ispe.count + (pixi.count + colr.count)
+}
+
+// The tone map's entry, where there is one. None of its properties is essential.
+fn write_tone_association(out: &mut [u8], at: usize, s: Shape, p: TonePlaces) -> usize
+    requires { ⌜ at + cond (s .tone) (3 + tone-count p) 0 ≤ length (now out) ⌝ }
+    requires { ⌜ Shaped s ⌝ }
+    requires { ⌜ Tone-fits p ⌝ }
+    ensures { λ r. ⌜ Wrote (now (out .entry)) at (cond (s .tone) (3 + tone-count p) 0) (flatMap (association ordinary) (given (s .tone) ((gain-id s + 2 with tone-list p) ∷ []))) (now (out .exit)) r ⌝ }
+{
+    if s.tone {
+        let id = tmap_id(s);
+        let a = write_association_head(out, at, id, tone_count(p));
+        return write_tone_list(out, a, p);
+    }
+    at
+}
+
+// The gain map's entries.
+pub fn write_ipma(
+    out: &mut [u8],
+    at: usize,
+    s: Shape,
+    image: ImagePlaces,
+    tone: TonePlaces,
+    irot: Run,
+    imir: Run,
+) -> usize
+    requires { ⌜ at + (cond (s .gain) (3 + image-count image irot imir) 0 + cond (s .tone) (3 + tone-count tone) 0) ≤ length (now out) ⌝ }
+    requires { ⌜ Shaped s ⌝ }
+    requires { ⌜ Image-fits image ⌝ }
+    requires { ⌜ Tone-fits tone ⌝ }
+    requires { ⌜ Fitting irot ⌝ }
+    requires { ⌜ Fitting imir ⌝ }
+    ensures { λ r. ⌜ Wrote (now (out .entry)) at (cond (s .gain) (3 + image-count image irot imir) 0 + cond (s .tone) (3 + tone-count tone) 0) (flatMap (association ordinary) (given (s .gain) ((gain-id s with image-list image irot imir) ∷ []) ‖ given (s .tone) ((gain-id s + 2 with tone-list tone) ∷ []))) (now (out .exit)) r ⌝ }
+{
+    let a = write_image_association(out, at, s, image, irot, imir);
+    write_tone_association(out, a, s, tone)
+}

@@ -1,0 +1,78 @@
+// The gain map's entries in iloc.
+ghost use mathlib.Core.Path.{_≡_};
+ghost use mathlib.Core.Bool.{true, cond};
+ghost use mathlib.Core.List.{[], _∷_, flatMap};
+ghost use Prim.Native.Nat.{_+_, _≤_, _<_};
+ghost use lib.ListN.{length};
+ghost use Rattle.octets.specs.Stores.{Wrote};
+ghost use Rattle.panel.specs.Items.{ordinary, given, gain-id};
+ghost use Rattle.panel.specs.Iloc.{entry, located};
+ghost use Rattle.boxes.specs.Spans.{spans};
+ghost use Rattle.boxes.specs.Runs.{Shaped};
+ghost use Rattle.gain_map.specs.Sizes.{sizes};
+use crate::items::image_id;
+use crate::items::tmap_id;
+use crate::items::xmp_id;
+use boxes::location::write_location;
+use panel::Shape;
+
+// The lengths of the gain map's payloads: the sample, the XMP and the tone map, 0 where there is none.
+pub struct GainLengths {
+    pub sample: u32,
+    pub xmp: u32,
+    pub tmap: u32,
+}
+
+// The tone map's entry.
+fn write_tone_location(out: &mut [u8], at: usize, s: Shape, offset: u32, size: u32) -> usize
+    requires { ⌜ at + cond (s .tone) 16 0 ≤ length (now out) ⌝ }
+    requires { ⌜ Shaped s ⌝ }
+    ensures { λ r. ⌜ Wrote (now (out .entry)) at (cond (s .tone) 16 0) (flatMap (entry ordinary) (located (gain-id s + 2) 0 (spans offset (given (s .tone) (size ∷ []))))) (now (out .exit)) r ⌝ }
+{
+    if s.tone {
+        let tone = tmap_id(s);
+        return write_location(out, at, tone, 0, offset, size);
+    }
+    at
+}
+
+// The entries of the gain image and of its XMP.
+fn write_image_locations(
+    out: &mut [u8],
+    at: usize,
+    s: Shape,
+    offset: u32,
+    sample: u32,
+    xmp: u32,
+) -> usize
+    requires { ⌜ at + 32 ≤ length (now out) ⌝ }
+    requires { ⌜ Shaped s ⌝ }
+    requires { ⌜ s .gain ≡ true ⌝ }
+    requires { ⌜ offset + sample < 4294967296 ⌝ }
+    ensures { λ r. ⌜ Wrote (now (out .entry)) at 32 (flatMap (entry ordinary) (located (gain-id s) 0 (spans offset (sample ∷ xmp ∷ [])))) (now (out .exit)) r ⌝ }
+{
+    let image = image_id(s);
+    let second = xmp_id(s);
+    let a = write_location(out, at, image, 0, offset, sample);
+    write_location(out, a, second, 0, offset + sample, xmp)
+}
+
+// The gain map's entries, whose payloads lie back to back from `offset` on.
+pub fn write_iloc(out: &mut [u8], at: usize, s: Shape, offset: u32, lengths: GainLengths) -> usize
+    requires { ⌜ at + (cond (s .gain) 32 0 + cond (s .tone) 16 0) ≤ length (now out) ⌝ }
+    requires { ⌜ Shaped s ⌝ }
+    requires { ⌜ offset + (lengths .sample + lengths .xmp) < 4294967296 ⌝ }
+    ensures { λ r. ⌜ Wrote (now (out .entry)) at (cond (s .gain) 32 0 + cond (s .tone) 16 0) (flatMap (entry ordinary) (located (gain-id s) 0 (spans offset (sizes s lengths)))) (now (out .exit)) r ⌝ }
+{
+    if s.gain {
+        let a = write_image_locations(out, at, s, offset, lengths.sample, lengths.xmp);
+        return write_tone_location(
+            out,
+            a,
+            s,
+            offset + lengths.sample + lengths.xmp,
+            lengths.tmap,
+        );
+    }
+    at
+}

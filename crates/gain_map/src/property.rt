@@ -1,0 +1,105 @@
+// The gain map's properties in ipco.
+ghost use mathlib.Core.Path.{_≡_};
+ghost use mathlib.Core.List.{List, [], _∷_};
+ghost use Prim.Native.Nat.{ℕ, _+_, _≤_, _<_};
+ghost use lib.ListN.{length};
+ghost use Rattle.octets.specs.Numbers.{_‖_};
+ghost use Rattle.octets.specs.Boxes.{box};
+ghost use Rattle.octets.specs.Stores.{Boxed};
+ghost use Rattle.panel.specs.Types.{bits};
+ghost use Rattle.panel.specs.Of.{Lent, part, alternate-of, gain-of};
+ghost use Rattle.panel.specs.Ipco.{nclx-payload, ispe, pixi, auxC, alternates, tone-slots, gain-slots, held};
+ghost use Rattle.boxes.specs.Sizes.{alternates-size};
+ghost use Rattle.gain_map.specs.Properties.{tone-properties-size, gain-properties-size};
+use boxes::colr::write_alternate_colr;
+use boxes::colr::write_colr_nclx;
+use boxes::property::write_auxc;
+use boxes::property::write_hvcc;
+use boxes::property::write_ispe;
+use boxes::property::write_pixi_color;
+use boxes::property::write_pixi_mono;
+use panel::color::MaybeColorMetadata;
+use panel::color::Part;
+use panel::gain_map::EncodedGainMap;
+use panel::gain_map::MaybeGainMap;
+
+// hvcC, ispe, pixi, auxC and colr of the gain image.
+fn write_image_properties(out: &mut [u8], at: usize, g: EncodedGainMap, hvcc: &[u8]) -> usize
+    requires { ⌜ at + (113 + length (now hvcc)) ≤ length (now out) ⌝ }
+    requires { ⌜ 113 + length (now hvcc) < 4294967296 ⌝ }
+    ensures { λ r. ⌜ Boxed (now (out .entry)) at (113 + length (now (hvcc .entry))) (box "hvcC" (now (hvcc .entry)) ∷ ispe (g .width) (g .height) ∷ pixi 1 (bits (g .«bit_depth»)) ∷ auxC "urn:com:apple:photo:2020:aux:hdrgainmap" ∷ box "colr" (nclx-payload (g .cicp)) ∷ []) (now (out .exit)) r ⌝ }
+{
+    let depth = g.bit_depth;
+    let cicp = g.cicp;
+    let a = write_hvcc(out, at, hvcc);
+    let b = write_ispe(out, a, g.width, g.height);
+    let c = write_pixi_mono(out, b, depth.bits());
+    let d = write_auxc(out, c, b"urn:com:apple:photo:2020:aux:hdrgainmap");
+    write_colr_nclx(out, d, cicp)
+}
+
+// ispe, pixi and the alternate colour of a tone map.
+fn write_tone_boxes(
+    out: &mut [u8],
+    at: usize,
+    w: u32,
+    h: u32,
+    depth: u8,
+    alternate: MaybeColorMetadata,
+    icc: &[u8],
+) -> usize
+    requires { ⌜ at + (36 + alternates-size (alternate-of alternate (now icc))) ≤ length (now out) ⌝ }
+    requires { ⌜ 36 + alternates-size (alternate-of alternate (now icc)) < 4294967296 ⌝ }
+    ensures { λ r. ⌜ Boxed (now (out .entry)) at (36 + alternates-size (alternate-of alternate (now (icc .entry)))) (ispe w h ∷ pixi 3 depth ∷ alternates (alternate-of alternate (now (icc .entry)))) (now (out .exit)) r ⌝ }
+{
+    let a = write_ispe(out, at, w, h);
+    let b = write_pixi_color(out, a, depth);
+    write_alternate_colr(out, b, alternate, icc)
+}
+
+// The tone map's properties, where there is one.
+fn write_tone_properties(
+    out: &mut [u8],
+    at: usize,
+    present: Part,
+    w: u32,
+    h: u32,
+    depth: u8,
+    alternate: MaybeColorMetadata,
+    icc: &[u8],
+) -> usize
+    requires { ⌜ at + tone-properties-size present (alternate-of alternate (now icc)) ≤ length (now out) ⌝ }
+    requires { ⌜ tone-properties-size present (alternate-of alternate (now icc)) < 4294967296 ⌝ }
+    ensures { λ r. ⌜ ((t : List ℕ) → Boxed (now (out .entry)) at (tone-properties-size present (alternate-of alternate (now (icc .entry)))) (held (tone-slots (ispe w h) (pixi 3 depth) (part present t) (alternate-of alternate (now (icc .entry))))) (now (out .exit)) r) ⌝ }
+{
+    match present {
+        Part::Present => write_tone_boxes(out, at, w, h, depth, alternate, icc),
+        Part::Absent => at,
+    }
+}
+
+// The properties of a gain map, where there is one; w, h and depth are the tone map's.
+pub fn write_ipco(
+    out: &mut [u8],
+    at: usize,
+    gain: MaybeGainMap,
+    w: u32,
+    h: u32,
+    depth: u8,
+    hvcc: &[u8],
+    icc: &[u8],
+) -> usize
+    requires { ⌜ at + gain-properties-size gain (now hvcc) (now icc) ≤ length (now out) ⌝ }
+    requires { ⌜ gain-properties-size gain (now hvcc) (now icc) < 4294967296 ⌝ }
+    ensures { λ r. ⌜ ((l : Lent) → l .gain-hvcc ≡ now (hvcc .entry) → l .alternate-icc ≡ now (icc .entry) → Boxed (now (out .entry)) at (gain-properties-size gain (now (hvcc .entry)) (now (icc .entry))) (held (gain-slots (ispe w h) (pixi 3 depth) (gain-of gain l))) (now (out .exit)) r) ⌝ }
+{
+    match gain {
+        MaybeGainMap::Some(g) => {
+            let present = g.tmap;
+            let alternate = g.alternate_color;
+            let a = write_image_properties(out, at, g, hvcc);
+            write_tone_properties(out, a, present, w, h, depth, alternate, icc)
+        }
+        MaybeGainMap::None => at,
+    }
+}
