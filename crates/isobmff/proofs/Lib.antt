@@ -1,0 +1,5 @@
+pub mod Joins
+pub mod Locations
+pub mod Parts
+pub mod Associations
+pub mod Roles

@@ -1,0 +1,208 @@
+-- ipco and mdat from their parts: their sizes are the sums that the writers reserve, they hold what the writers lay one after the other, and nothing but the bytes lent for them.
+use mathlib.Core.Path.{_≡_, refl, sym, ap, _∙_}
+use mathlib.Core.Bool.{Bool, cond}
+use mathlib.Core.Option.{Option, none, some}
+use mathlib.Core.List.{List, [], _++_, flatten, append-assoc}
+use Prim.Native.Nat.{ℕ, zero, suc, _+_, _*_, max}
+use native.Mathlib.Omega.{arith}
+use lib.ListN.{length}
+use Rattle.octets.specs.Numbers.{_‖_, total}
+use Rattle.octets.specs.Boxes.{Box, box, optional, boxes}
+use Rattle.octets.proofs.Lists.{flatten-append, flatten-one}
+use Rattle.panel.specs.Types.{bits, irot-steps, imir-axis}
+use Rattle.panel.specs.Panel.{Colour}
+use Rattle.panel.specs.Of.{Lent, part, colour-of, light-of, gain-of, alternate-of, panel-of}
+use Rattle.panel.specs.Items.{has, exif-payload, gain-payloads}
+use Rattle.panel.specs.Ipco.{Role, second-colr, pixi, irot-payload, imir-payload, clli-payload, tone-ispe, tone-slots, gain-slots, held, ipco}
+use Rattle.panel.specs.File.{mdat}
+use Rattle.panel.specs.declared.Panel.{Panel as Numbers}
+use Rattle.panel.specs.declared.color.Cicp.{Cicp}
+use Rattle.panel.specs.declared.color.Part.{Part}
+use Rattle.panel.specs.declared.color.Part.the-variants.{Absent, Present}
+use Rattle.panel.specs.declared.gain_map.MaybeGainMap.{MaybeGainMap}
+use Rattle.panel.specs.declared.gain_map.MaybeGainMap.the-variants as G
+use Rattle.panel.specs.declared.metadata.ContentLightLevel.{ContentLightLevel}
+use Rattle.panel.proofs.Payloads.{flatten-samples, cut}
+use Rattle.length.specs.Parts.{long}
+use Rattle.length.specs.Properties.{ipco-size}
+use Rattle.length.specs.Properties as L
+use Rattle.length.specs.Size.{mdat-size}
+use Rattle.length.specs.Size as S
+use Rattle.length.proofs.Properties.{length-ipco}
+use Rattle.boxes.specs.Sizes.{first-colr-size, second-colr-size, stated-size, alternates-size, irot-size, imir-size, clli-size}
+use Rattle.gain_map.specs.Properties.{tone-properties-size, gain-properties-size}
+use Rattle.gain_map.specs.Data.{gain-data, gain-data-size}
+use Rattle.gain_map.specs.Data as D
+use Rattle.isobmff.specs.Parts.{lent-props, color-properties, color-properties-size, alpha-properties, alpha-properties-size, optional-properties, optional-properties-size, exif-bytes, exif-size}
+
+-- ---- sizes of properties, as the writers and as the length state them
+
+same-first : (c : Option Cicp) (i : Option (List ℕ)) → first-colr-size c i ≡ L.first-colr-size c i
+same-first (some c) i = refl
+same-first none (some i) = refl
+same-first none none = refl
+
+same-second : (c : Option Cicp) (i : Option (List ℕ)) → second-colr-size c i ≡ L.second-colr-size c i
+same-second (some c) none = refl
+same-second (some c) (some i) = refl
+same-second none i = refl
+
+same-alternates : (a : Option Colour) → alternates-size a ≡ L.alternates-size a
+same-alternates none = refl
+same-alternates (some a) = stated (a .cicp) (a .icc)
+  where
+    stated : (c : Option Cicp) (i : Option (List ℕ)) → stated-size c i ≡ cond (has c) 19 0 + cond (has i) 12 0 + long i
+    stated (some c) none = refl
+    stated (some c) (some i) = omega arith
+    stated none (some i) = omega arith
+    stated none none = refl
+
+same-irot : (k : ℕ) → irot-size k ≡ 9 * cond (has (irot-payload k)) 1 0
+same-irot zero = refl
+same-irot (suc k) = refl
+
+same-imir : (a : Option Bool) → imir-size a ≡ 9 * cond (has (imir-payload a)) 1 0
+same-imir none = refl
+same-imir (some a) = refl
+
+same-clli : (l : Option ContentLightLevel) → clli-size l ≡ 12 * cond (has l) 1 0
+same-clli none = refl
+same-clli (some l) = refl
+
+same-tone : (p : Part) (t : List ℕ) (a : Option Colour) → tone-properties-size p a ≡ cond (has (part p t)) (20 + 16 + L.alternates-size a) 0
+same-tone Absent t a = refl
+same-tone Present t a = ap (λ (k : ℕ). 36 + k) (same-alternates a)
+
+same-gain : (g : MaybeGainMap) (l : Lent) → gain-properties-size g (l .gain-hvcc) (l .alternate-icc) ≡ L.gain-properties-size (gain-of g l)
+same-gain G.None l = refl
+same-gain (G.Some g) l = omega (arith, same-tone (g .tmap) (l .gain-tmap) (alternate-of (g .«alternate_color») (l .alternate-icc)))
+
+-- ---- ipco
+
+-- four runs and what stands behind them
+four-joined : {A : Type 0} (x y z w r : List A) → (x ++ (y ++ (z ++ w))) ++ r ≡ x ++ (y ++ (z ++ (w ++ r)))
+four-joined x y z w r =
+    append-assoc x (y ++ (z ++ w)) r ∙ ap (λ (k : List _). x ++ k) (append-assoc y (z ++ w) r ∙ ap (λ (k : List _). y ++ k) (append-assoc z w r))
+
+module _ (n : Numbers) (l : Lent) where
+  -- ipco with these properties of the gain map
+  abbrev with-gain : List Box → Box
+  with-gain r =
+      let c = colour-of (n .«color_meta») (l .icc) in
+      let m = n .metadata in
+      box
+      "ipco"
+      (boxes
+      (color-properties (n .dims) (n .«bit_depth») (l .tiles .config) c
+      ‖ alpha-properties (n .«bit_depth») (l .alpha .config)
+      ‖ optional "colr" (second-colr (c .cicp) (c .icc))
+      ‖ optional "irot" (irot-payload (irot-steps (m .orientation)))
+      ‖ optional "imir" (imir-payload (imir-axis (m .orientation)))
+      ‖ optional "clli" (clli-payload (light-of (m .«content_light_level»)))
+      ‖ r))
+
+  -- its own
+  abbrev its-slots : List (Role × List Box)
+  its-slots = gain-slots (tone-ispe (n .dims) (n .metadata .orientation)) (pixi 3 (max (bits (n .«bit_depth»)) 10)) (gain-of (n .«gain_map») l)
+
+  ipco-with-gain : ipco (panel-of n l) ≡ with-gain (held its-slots)
+  unfolding panel-of
+  ipco-with-gain = refl
+
+  -- as it is written, piece by piece
+  pub ipco-joined : let c = colour-of (n .«color_meta») (l .icc) in
+      box "ipco" (boxes (color-properties (n .dims) (n .«bit_depth») (l .tiles .config) c ‖ alpha-properties (n .«bit_depth») (l .alpha .config) ‖ optional-properties c (n .metadata) ‖ held its-slots)) ≡ ipco (panel-of n l)
+  ipco-joined =
+      let c = colour-of (n .«color_meta») (l .icc) in
+      let m = n .metadata in
+      ap
+      (λ (r : List Box). box "ipco" (boxes (color-properties (n .dims) (n .«bit_depth») (l .tiles .config) c ‖ alpha-properties (n .«bit_depth») (l .alpha .config) ‖ r)))
+      (four-joined
+      (optional "colr" (second-colr (c .cicp) (c .icc)))
+      (optional "irot" (irot-payload (irot-steps (m .orientation))))
+      (optional "imir" (imir-payload (imir-axis (m .orientation))))
+      (optional "clli" (clli-payload (light-of (m .«content_light_level»))))
+      (held its-slots))
+      ∙ sym ipco-with-gain
+
+  -- its size, part by part
+  pub ipco-sum : let c = colour-of (n .«color_meta») (l .icc) in
+      color-properties-size (l .tiles .config) c + (alpha-properties-size (l .alpha .config) + (optional-properties-size c (n .metadata) + gain-properties-size (n .«gain_map») (l .gain-hvcc) (l .alternate-icc))) ≡ ipco-size (panel-of n l)
+  unfolding panel-of
+  ipco-sum =
+      let c = colour-of (n .«color_meta») (l .icc) in
+      let m = n .metadata in
+      omega (
+        arith,
+        same-first (c .cicp) (c .icc),
+        same-second (c .cicp) (c .icc),
+        same-irot (irot-steps (m .orientation)),
+        same-imir (imir-axis (m .orientation)),
+        same-clli (light-of (m .«content_light_level»)),
+        same-gain (n .«gain_map») l,
+      )
+
+-- whatever the bytes of a tone map
+same-tone-slots : (x y : Box) (p : Part) (t u : List ℕ) (a : Option Colour) → tone-slots x y (part p t) a ≡ tone-slots x y (part p u) a
+same-tone-slots x y Absent t u a = refl
+same-tone-slots x y Present t u a = refl
+
+-- ipco holds no other bytes of what is lent
+abbrev props : Lent → Lent
+props l = lent-props (l .tiles .config) (l .alpha .config) (l .icc) (l .gain-hvcc) (l .alternate-icc)
+
+same-gain-slots : (x y : Box) (g : MaybeGainMap) (l : Lent) → gain-slots x y (gain-of g l) ≡ gain-slots x y (gain-of g (props l))
+same-gain-slots x y G.None l = refl
+same-gain-slots x y (G.Some g) l = rw (same-tone-slots x y (g .tmap) (l .gain-tmap) [] (alternate-of (g .«alternate_color») (l .alternate-icc))) refl
+
+pub ipco-parts : (n : Numbers) (l : Lent) → ipco (panel-of n l) ≡ ipco (panel-of n (lent-props (l .tiles .config) (l .alpha .config) (l .icc) (l .gain-hvcc) (l .alternate-icc)))
+ipco-parts n l =
+    let gain = same-gain-slots (tone-ispe (n .dims) (n .metadata .orientation)) (pixi 3 (max (bits (n .«bit_depth»)) 10)) (n .«gain_map») l in
+    ipco-with-gain n l ∙ ap (λ (r : List (Role × List Box)). with-gain n l (held r)) gain ∙ sym (ipco-with-gain n (props l))
+
+pub ipco-size-parts : (n : Numbers) (l : Lent)
+    → ipco-size (panel-of n l) ≡ ipco-size (panel-of n (lent-props (l .tiles .config) (l .alpha .config) (l .icc) (l .gain-hvcc) (l .alternate-icc)))
+ipco-size-parts n l =
+    sym (length-ipco (panel-of n l)) ∙ ap (λ (b : Box). length (b .body)) (ipco-parts n l) ∙ length-ipco (panel-of n (props l))
+
+-- ---- mdat
+
+flatten-exif : (e : Option (List ℕ)) → flatten (exif-payload e) ≡ exif-bytes e
+unfolding flatten
+flatten-exif none = refl
+flatten-exif (some e) = flatten-one _
+
+flatten-gain : (g : MaybeGainMap) (l : Lent) → flatten (gain-payloads (gain-of g l)) ≡ gain-data g (l .gain-sample) (l .gain-xmp) (l .gain-tmap)
+unfolding flatten
+flatten-gain G.None l = refl
+flatten-gain (G.Some g) l = refl
+
+pub mdat-parts : (n : Numbers) (l : Lent) → total (l .tiles .lengths) ≡ length (l .tiles .bytes) → total (l .alpha .lengths) ≡ length (l .alpha .bytes)
+    → mdat (panel-of n l)
+    ≡ box "mdat" (l .tiles .bytes ‖ l .alpha .bytes ‖ exif-bytes (part (n .metadata .exif) (l .exif)) ‖ gain-data (n .«gain_map») (l .gain-sample) (l .gain-xmp) (l .gain-tmap))
+unfolding panel-of
+mdat-parts n l h k =
+    let exif = exif-payload (part (n .metadata .exif) (l .exif)) in
+    let gain = gain-payloads (gain-of (n .«gain_map») l) in
+    let x = flatten-append exif gain ∙ (λ i. flatten-exif (part (n .metadata .exif) (l .exif)) i ++ flatten-gain (n .«gain_map») l i) in
+    let y = flatten-append (cut (l .alpha)) (exif ++ gain) ∙ (λ i. flatten-samples (l .alpha .lengths) (l .alpha .bytes) k i ++ x i) in
+    let z = flatten-append (cut (l .tiles)) (cut (l .alpha) ++ (exif ++ gain)) ∙ (λ i. flatten-samples (l .tiles .lengths) (l .tiles .bytes) h i ++ y i) in
+    ap (box "mdat") z
+
+same-exif : (e : Option (List ℕ)) → exif-size e ≡ cond (has e) 4 0 + long e
+same-exif none = refl
+same-exif (some e) = refl
+
+same-long : (e : Option (List ℕ)) → D.long e ≡ long e
+same-long none = refl
+same-long (some e) = refl
+
+same-data : (g : MaybeGainMap) (l : Lent) → gain-data-size g (l .gain-sample) (l .gain-xmp) (l .gain-tmap) ≡ S.gain-data-size (gain-of g l)
+same-data G.None l = refl
+same-data (G.Some g) l = omega (arith, same-long (part (g .tmap) (l .gain-tmap)))
+
+pub mdat-sum : (n : Numbers) (l : Lent)
+    → length (l .tiles .bytes) + (length (l .alpha .bytes) + (exif-size (part (n .metadata .exif) (l .exif)) + gain-data-size (n .«gain_map») (l .gain-sample) (l .gain-xmp) (l .gain-tmap)))
+    ≡ mdat-size (panel-of n l)
+unfolding panel-of
+mdat-sum n l = omega (arith, same-exif (part (n .metadata .exif) (l .exif)), same-data (n .«gain_map») l)

@@ -1,0 +1,16 @@
+-- The head, and the descriptor twice.
+use borrow.Author.Needs.{needs}
+use Rattle.octets.proofs.Stores.{_▹_, boxed}
+use Rattle.isobmff.proofs.meta.write_idat.Statement.{statement}
+use Rattle.isobmff.proofs.meta.write_idat.Tie as tie
+
+returns : tie.Need-returns
+returns c =
+    let c3 = c .before .before in
+    let c2 = c3 .before .before .before .before in
+    let c1 = c2 .before .before .before .before in
+    let start = c1 .before .before .before .before in
+    boxed "idat" (c1 .write-box .ensures) ((c2 .write-descriptor .ensures) ▹ (c3 .write-descriptor2 .ensures)) (start .pre .1 .1)
+
+pub write-idat-spec : {M : Type 1} → statement M
+write-idat-spec = tie.close (tie.spec (λ c κs. search needs) (λ c κs. search needs) (λ c κs. search needs) (λ c. search needs) returns)

@@ -1,0 +1,34 @@
+-- Four zero bytes and the Exif bytes, or nothing.
+use borrow.Author.Needs.{needs}
+use native.Mathlib.Omega.{arith}
+use mathlib.Core.Path.{ap}
+use Rattle.octets.proofs.Stores.{_▹_, kept, nothing}
+use Rattle.panel.specs.declared.color.Part.{Part}
+use Rattle.panel.specs.Of.{part}
+use Rattle.isobmff.specs.Parts.{exif-size}
+use Rattle.isobmff.proofs.payload.write_exif_payload.Statement.{statement}
+use Rattle.isobmff.proofs.payload.write_exif_payload.Tie as tie
+
+w32-requires : tie.Need-w32-requires
+w32-requires c κs =
+    let start = c .before .before .before .before .before in
+    omega (arith, ap (λ (x : Part). exif-size (part x (start .args .exif .now))) (c .before .enum-told .given .1))
+
+put-requires : tie.Need-put-requires
+put-requires c κs =
+    let c1 = c .before .before .before in
+    let start = c1 .before .before .before .before .before .before in
+    omega (arith, (c1 .w32 .ensures) .end, kept (c1 .w32 .ensures), ap (λ (x : Part). exif-size (part x (start .args .exif .now))) (c .before .before .before .before .before .enum-told .given .1))
+
+returns : tie.Need-returns
+returns c =
+    let c2 = c .before .before in
+    let c1 = c2 .before .before .before .before in
+    rw (c .before .before .before .before .before .before .before .before .enum-told .given .1) ((c1 .w32 .ensures) ▹ (c2 .put .ensures))
+
+returns-2 : tie.Need-returns-2
+returns-2 c =
+    rw (c .enum-told2 .given .1) nothing
+
+pub write-exif-payload-spec : {M : Type 1} → statement M
+write-exif-payload-spec = tie.close (tie.spec (λ c. search needs) w32-requires put-requires (λ c. search needs) (λ c. search needs) returns returns-2)

@@ -1,0 +1,20 @@
+-- The larger of the depth and 10, depth by depth.
+use borrow.Author.Needs.{needs}
+use mathlib.Core.Path.{refl}
+use Rattle.isobmff.proofs.property.tone_depth.Statement.{statement}
+use Rattle.isobmff.proofs.property.tone_depth.Tie as tie
+
+returns : tie.Need-returns
+returns c =
+    rw (c .enum-told .given .1) refl
+
+returns-2 : tie.Need-returns-2
+returns-2 c =
+    rw (c .enum-told2 .given .1) refl
+
+returns-3 : tie.Need-returns-3
+returns-3 c =
+    rw (c .enum-told3 .given .1) refl
+
+pub tone-depth-spec : {M : Type 1} → statement M
+tone-depth-spec = tie.close (tie.spec (λ c. search needs) (λ c. search needs) (λ c. search needs) returns returns-2 returns-3)

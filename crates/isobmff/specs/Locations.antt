@@ -1,0 +1,22 @@
+-- The items' locations from numbers alone: the shape, the descriptor's length, where each run of payloads begins, and their sizes.
+use mathlib.Core.List.{List, [], _∷_}
+use Prim.Native.Nat.{ℕ}
+use Rattle.octets.specs.Numbers.{_‖_}
+use Rattle.panel.specs.Items.{given, colour-grid, alpha-tile, alpha-grid, exif-id}
+use Rattle.panel.specs.Iloc.{Location, located}
+use Rattle.panel.specs.declared.Shape.{Shape}
+use Rattle.boxes.specs.Spans.{spans}
+use Rattle.gain_map.specs.Sizes.{sizes}
+use Rattle.gain_map.specs.declared.location.GainLengths.{GainLengths}
+
+-- the sizes of the payloads behind the alpha samples, where an Exif payload has e bytes
+abbrev pub other-sizes : Shape → ℕ → GainLengths → List ℕ
+other-sizes s e g = given (s .exif) (e ∷ []) ‖ sizes s g
+
+abbrev pub placed : Shape → ℕ → ℕ → ℕ → ℕ → List ℕ → List ℕ → List ℕ → List Location
+placed s n color alpha other colors alphas others =
+    located 1 0 (spans color colors)
+    ‖ located (colour-grid s) 1 (record { offset = 0; size = n } ∷ [])
+    ‖ located (alpha-tile s) 0 (spans alpha alphas)
+    ‖ located (alpha-grid s) 1 (record { offset = n; size = n } ∷ [])
+    ‖ located (exif-id s) 0 (spans other others)

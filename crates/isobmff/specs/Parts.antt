@@ -1,0 +1,70 @@
+-- What ipco and mdat are made of: a lending with the properties' bytes alone, the properties by picture and their sizes, and the Exif payload.
+use mathlib.Core.Option.{Option, none, some}
+use mathlib.Core.List.{List, [], _∷_}
+use Prim.Native.Nat.{ℕ, _+_}
+use lib.ListN.{length}
+use Rattle.octets.specs.Numbers.{_‖_, be}
+use Rattle.octets.specs.Boxes.{Box, box, optional}
+use Rattle.panel.specs.Types.{bits, irot-steps, imir-axis}
+use Rattle.panel.specs.Panel.{Colour}
+use Rattle.panel.specs.Of.{Lent, light-of}
+use Rattle.panel.specs.Ipco.{first-colr, second-colr, ispe, pixi, auxC, irot-payload, imir-payload, clli-payload}
+use Rattle.panel.specs.declared.GridDims.{GridDims}
+use Rattle.panel.specs.declared.fmt.BitDepth.{BitDepth}
+use Rattle.panel.specs.declared.metadata.Metadata.{Metadata}
+use Rattle.boxes.specs.Sizes.{first-colr-size, second-colr-size, irot-size, imir-size, clli-size}
+
+-- ---- ipco
+
+-- the two decoder configuration records, the profile, the gain map's record and its alternate profile
+abbrev pub lent-props : List ℕ → List ℕ → List ℕ → List ℕ → List ℕ → Lent
+lent-props colour alpha icc gain alternate =
+    record {
+      tiles = record { config = colour; lengths = []; bytes = [] };
+      alpha = record { config = alpha; lengths = []; bytes = [] };
+      icc = icc;
+      exif = [];
+      gain-hvcc = gain;
+      gain-sample = [];
+      gain-xmp = [];
+      gain-tmap = [];
+      alternate-icc = alternate;
+    }
+
+-- the colour picture's
+abbrev pub color-properties : GridDims → BitDepth → List ℕ → Colour → List Box
+color-properties d depth hvcc c =
+    box "hvcC" hvcc ∷ ispe (d .«tile_w») (d .«tile_h») ∷ ispe (d .«full_w») (d .«full_h») ∷ box "colr" (first-colr (c .cicp) (c .icc)) ∷ pixi 3 (bits depth) ∷ []
+
+abbrev pub color-properties-size : List ℕ → Colour → ℕ
+color-properties-size hvcc c = (8 + length hvcc) + (20 + (20 + (first-colr-size (c .cicp) (c .icc) + 16)))
+
+-- the alpha picture's
+abbrev pub alpha-properties : BitDepth → List ℕ → List Box
+alpha-properties depth hvcc = box "hvcC" hvcc ∷ pixi 1 (bits depth) ∷ auxC "urn:mpeg:hevc:2015:auxid:1" ∷ []
+
+abbrev pub alpha-properties-size : List ℕ → ℕ
+alpha-properties-size hvcc = (8 + length hvcc) + (14 + 39)
+
+-- those that may be absent
+abbrev pub optional-properties : Colour → Metadata → List Box
+optional-properties c m =
+    optional "colr" (second-colr (c .cicp) (c .icc))
+    ‖ optional "irot" (irot-payload (irot-steps (m .orientation)))
+    ‖ optional "imir" (imir-payload (imir-axis (m .orientation)))
+    ‖ optional "clli" (clli-payload (light-of (m .«content_light_level»)))
+
+abbrev pub optional-properties-size : Colour → Metadata → ℕ
+optional-properties-size c m =
+    second-colr-size (c .cicp) (c .icc) + (irot-size (irot-steps (m .orientation)) + (imir-size (imir-axis (m .orientation)) + clli-size (light-of (m .«content_light_level»))))
+
+-- ---- mdat
+
+-- the Exif payload: the offset of the TIFF header, which is 0, then the Exif bytes
+abbrev pub exif-bytes : Option (List ℕ) → List ℕ
+exif-bytes none = []
+exif-bytes (some e) = be 4 0 ‖ e
+
+abbrev pub exif-size : Option (List ℕ) → ℕ
+exif-size none = 0
+exif-size (some e) = 4 + length e

@@ -1,0 +1,217 @@
+// meta: the boxes of the items, then those of their properties.
+ghost use mathlib.Core.Path.{_≡_};
+ghost use mathlib.Core.List.{[], _∷_};
+ghost use Prim.Native.Nat.{_+_, _≤_, _<_};
+ghost use lib.ListN.{length};
+ghost use Rattle.octets.specs.Numbers.{_‖_, total};
+ghost use Rattle.octets.specs.Boxes.{full, boxes};
+ghost use Rattle.octets.specs.Stores.{Boxed};
+ghost use Rattle.panel.specs.Of.{panel-of};
+ghost use Rattle.panel.specs.File.{idat};
+ghost use Rattle.length.specs.Properties.{pictures};
+ghost use Rattle.boxes.specs.Sizes.{descriptor-size, Sided};
+ghost use Rattle.isobmff.specs.Locations.{other-sizes, placed};
+ghost use Rattle.isobmff.specs.Parts.{lent-props};
+ghost use Rattle.isobmff.specs.Roles.{Fit, ipma-bytes};
+ghost use Rattle.isobmff.specs.Sections.{item-boxes, item-boxes-size, Item-sizes, iprp-of, iprp-bytes, idat-bytes, property-boxes, property-boxes-size, Property-sizes};
+use crate::association::Places;
+use crate::association::write_ipma;
+use crate::items::write_iinf;
+use crate::items::write_iref;
+use crate::location::Offsets;
+use crate::location::write_iloc;
+use crate::property::write_ipco;
+use boxes::ids::color_grid_id;
+use boxes::meta::write_descriptor;
+use boxes::meta::write_hdlr;
+use boxes::meta::write_pitm;
+use gain_map::location::GainLengths;
+use layout::Layout;
+use octets::write_box;
+use octets::write_fullbox;
+use panel::GridDims;
+use panel::Panel;
+use panel::Shape;
+
+// idat: the descriptor of each grid.
+pub fn write_idat(out: &mut [u8], at: usize, size: u32, d: GridDims) -> usize
+    requires { ⌜ at + idat-bytes d ≤ length (now out) ⌝ }
+    requires { ⌜ Sided d ⌝ }
+    requires { ⌜ size ≡ idat-bytes d ⌝ }
+    ensures { λ r. ⌜ Boxed (now (out .entry)) at (idat-bytes d) (idat d ∷ []) (now (out .exit)) r ⌝ }
+{
+    let a = write_box(out, at, size, b"idat");
+    let b = write_descriptor(out, a, d);
+    write_descriptor(out, b, d)
+}
+
+// hdlr, pitm, iloc, iinf and iref.
+pub fn write_item_boxes(
+    out: &mut [u8],
+    at: usize,
+    y: Layout,
+    exif: u32,
+    gain: GainLengths,
+    color_lengths: &[u32],
+    alpha_lengths: &[u32],
+) -> usize
+    requires { ⌜ at + item-boxes-size (y .shape) ≤ length (now out) ⌝ }
+    requires { ⌜ Item-sizes y ⌝ }
+    requires { ⌜ length (now «color_lengths») ≡ y .shape .tiles ⌝ }
+    requires { ⌜ length (now «alpha_lengths») ≡ y .shape .tiles ⌝ }
+    requires { ⌜ y .«color_data» + total (now «color_lengths») < 4294967296 ⌝ }
+    requires { ⌜ y .«alpha_data» + total (now «alpha_lengths») < 4294967296 ⌝ }
+    requires { ⌜ y .«other_data» + (exif + (gain .sample + gain .xmp)) < 4294967296 ⌝ }
+    ensures { λ r. ⌜ Boxed (now (out .entry)) at (item-boxes-size (y .shape)) (item-boxes (y .shape) (placed (y .shape) (y .descriptor) (y .«color_data») (y .«alpha_data») (y .«other_data») (now («color_lengths» .entry)) (now («alpha_lengths» .entry)) (other-sizes (y .shape) exif gain))) (now (out .exit)) r ⌝ }
+{
+    let s = y.shape;
+    let offsets = Offsets {
+        color: y.color_data,
+        alpha: y.alpha_data,
+        other: y.other_data,
+    };
+    let grid = color_grid_id(s);
+    let a = write_hdlr(out, at);
+    let b = write_pitm(out, a, grid);
+    let c = write_iloc(
+        out,
+        b,
+        y.iloc,
+        s,
+        y.descriptor,
+        offsets,
+        exif,
+        gain,
+        color_lengths,
+        alpha_lengths,
+    );
+    let d = write_iinf(out, c, y.iinf, s);
+    write_iref(out, d, y.iref, s)
+}
+
+// iprp: ipco and ipma, which has so many entries.
+pub fn write_iprp(
+    out: &mut [u8],
+    at: usize,
+    y: Layout,
+    count: u32,
+    z: Places,
+    panel: Panel,
+    color_hvcc: &[u8],
+    alpha_hvcc: &[u8],
+    icc: &[u8],
+    gain_hvcc: &[u8],
+    alternate_icc: &[u8],
+) -> usize
+    requires { ⌜ at + iprp-bytes (panel-of panel (lent-props (now «color_hvcc») (now «alpha_hvcc») (now icc) (now «gain_hvcc») (now «alternate_icc»))) (y .shape) z ≤ length (now out) ⌝ }
+    requires { ⌜ Item-sizes y ⌝ }
+    requires { ⌜ Property-sizes (panel-of panel (lent-props (now «color_hvcc») (now «alpha_hvcc») (now icc) (now «gain_hvcc») (now «alternate_icc»))) y z (panel .dims) ⌝ }
+    requires { ⌜ Fit z ⌝ }
+    requires { ⌜ count ≡ pictures (y .shape) ⌝ }
+    ensures { λ r. ⌜ Boxed (now (out .entry)) at (iprp-bytes (panel-of panel (lent-props (now («color_hvcc» .entry)) (now («alpha_hvcc» .entry)) (now (icc .entry)) (now («gain_hvcc» .entry)) (now («alternate_icc» .entry)))) (y .shape) z) (iprp-of (panel-of panel (lent-props (now («color_hvcc» .entry)) (now («alpha_hvcc» .entry)) (now (icc .entry)) (now («gain_hvcc» .entry)) (now («alternate_icc» .entry)))) (y .shape) z ∷ []) (now (out .exit)) r ⌝ }
+{
+    let s = y.shape;
+    let a = write_box(out, at, y.iprp, b"iprp");
+    let b = write_ipco(
+        out,
+        a,
+        y.ipco,
+        panel,
+        color_hvcc,
+        alpha_hvcc,
+        icc,
+        gain_hvcc,
+        alternate_icc,
+    );
+    write_ipma(out, b, y.ipma, count, s, z)
+}
+
+// iprp, grpl where there is a tone map, and idat.
+pub fn write_property_boxes(
+    out: &mut [u8],
+    at: usize,
+    y: Layout,
+    count: u32,
+    z: Places,
+    panel: Panel,
+    color_hvcc: &[u8],
+    alpha_hvcc: &[u8],
+    icc: &[u8],
+    gain_hvcc: &[u8],
+    alternate_icc: &[u8],
+) -> usize
+    requires { ⌜ at + property-boxes-size (panel-of panel (lent-props (now «color_hvcc») (now «alpha_hvcc») (now icc) (now «gain_hvcc») (now «alternate_icc»))) (y .shape) z (panel .dims) ≤ length (now out) ⌝ }
+    requires { ⌜ Item-sizes y ⌝ }
+    requires { ⌜ Property-sizes (panel-of panel (lent-props (now «color_hvcc») (now «alpha_hvcc») (now icc) (now «gain_hvcc») (now «alternate_icc»))) y z (panel .dims) ⌝ }
+    requires { ⌜ Fit z ⌝ }
+    requires { ⌜ count ≡ pictures (y .shape) ⌝ }
+    requires { ⌜ Sided (panel .dims) ⌝ }
+    ensures { λ r. ⌜ Boxed (now (out .entry)) at (property-boxes-size (panel-of panel (lent-props (now («color_hvcc» .entry)) (now («alpha_hvcc» .entry)) (now (icc .entry)) (now («gain_hvcc» .entry)) (now («alternate_icc» .entry)))) (y .shape) z (panel .dims)) (property-boxes (panel-of panel (lent-props (now («color_hvcc» .entry)) (now («alpha_hvcc» .entry)) (now (icc .entry)) (now («gain_hvcc» .entry)) (now («alternate_icc» .entry)))) (y .shape) z (panel .dims)) (now (out .exit)) r ⌝ }
+{
+    let s = y.shape;
+    let dims = panel.dims;
+    let a = write_iprp(
+        out,
+        at,
+        y,
+        count,
+        z,
+        panel,
+        color_hvcc,
+        alpha_hvcc,
+        icc,
+        gain_hvcc,
+        alternate_icc,
+    );
+    let b = gain_map::items::write_groups(out, a, s);
+    write_idat(out, b, y.idat, dims)
+}
+
+// meta: its head, the boxes of the items, and those of their properties. It takes the seven slices that these need.
+pub fn write_meta(
+    out: &mut [u8],
+    at: usize,
+    y: Layout,
+    count: u32,
+    z: Places,
+    panel: Panel,
+    exif: u32,
+    gain: GainLengths,
+    color_hvcc: &[u8],
+    alpha_hvcc: &[u8],
+    color_lengths: &[u32],
+    alpha_lengths: &[u32],
+    icc: &[u8],
+    gain_hvcc: &[u8],
+    alternate_icc: &[u8],
+) -> usize
+    requires { ⌜ at + (12 + (item-boxes-size (y .shape) + property-boxes-size (panel-of panel (lent-props (now «color_hvcc») (now «alpha_hvcc») (now icc) (now «gain_hvcc») (now «alternate_icc»))) (y .shape) z (panel .dims))) ≤ length (now out) ⌝ }
+    requires { ⌜ Item-sizes y ⌝ }
+    requires { ⌜ Property-sizes (panel-of panel (lent-props (now «color_hvcc») (now «alpha_hvcc») (now icc) (now «gain_hvcc») (now «alternate_icc»))) y z (panel .dims) ⌝ }
+    requires { ⌜ Fit z ⌝ }
+    requires { ⌜ count ≡ pictures (y .shape) ⌝ }
+    requires { ⌜ Sided (panel .dims) ⌝ }
+    requires { ⌜ y .meta ≡ 12 + (item-boxes-size (y .shape) + property-boxes-size (panel-of panel (lent-props (now «color_hvcc») (now «alpha_hvcc») (now icc) (now «gain_hvcc») (now «alternate_icc»))) (y .shape) z (panel .dims)) ⌝ }
+    requires { ⌜ length (now «color_lengths») ≡ y .shape .tiles ⌝ }
+    requires { ⌜ length (now «alpha_lengths») ≡ y .shape .tiles ⌝ }
+    requires { ⌜ y .«color_data» + total (now «color_lengths») < 4294967296 ⌝ }
+    requires { ⌜ y .«alpha_data» + total (now «alpha_lengths») < 4294967296 ⌝ }
+    requires { ⌜ y .«other_data» + (exif + (gain .sample + gain .xmp)) < 4294967296 ⌝ }
+    ensures { λ r. ⌜ Boxed (now (out .entry)) at (12 + (item-boxes-size (y .shape) + property-boxes-size (panel-of panel (lent-props (now («color_hvcc» .entry)) (now («alpha_hvcc» .entry)) (now (icc .entry)) (now («gain_hvcc» .entry)) (now («alternate_icc» .entry)))) (y .shape) z (panel .dims))) (full "meta" 0 0 (boxes (item-boxes (y .shape) (placed (y .shape) (y .descriptor) (y .«color_data») (y .«alpha_data») (y .«other_data») (now («color_lengths» .entry)) (now («alpha_lengths» .entry)) (other-sizes (y .shape) exif gain)) ‖ property-boxes (panel-of panel (lent-props (now («color_hvcc» .entry)) (now («alpha_hvcc» .entry)) (now (icc .entry)) (now («gain_hvcc» .entry)) (now («alternate_icc» .entry)))) (y .shape) z (panel .dims))) ∷ []) (now (out .exit)) r ⌝ }
+{
+    let a = write_fullbox(out, at, y.meta, b"meta", 0, 0);
+    let b = write_item_boxes(out, a, y, exif, gain, color_lengths, alpha_lengths);
+    write_property_boxes(
+        out,
+        b,
+        y,
+        count,
+        z,
+        panel,
+        color_hvcc,
+        alpha_hvcc,
+        icc,
+        gain_hvcc,
+        alternate_icc,
+    )
+}
