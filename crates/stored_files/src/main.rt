@@ -1,0 +1,150 @@
+// Writes the files of two panels to standard output, each followed by the four bytes of the output that lie behind it: panel P of the
+// specification, and a panel with every part. The file `stdout` beside src/ has what the Rust wrote for both.
+use panel::GridDims;
+use panel::Panel;
+use panel::color::Cicp;
+use panel::color::ColorMetadata;
+use panel::color::MatrixCoefficients;
+use panel::color::MaybeCicp;
+use panel::color::MaybeColorMetadata;
+use panel::color::Part;
+use panel::color::Primaries;
+use panel::color::TransferFunction;
+use panel::fmt::BitDepth;
+use panel::gain_map::EncodedGainMap;
+use panel::gain_map::MaybeGainMap;
+use panel::metadata::ContentLightLevel;
+use panel::metadata::MaybeLightLevel;
+use panel::metadata::Metadata;
+use panel::metadata::Orientation;
+use wrap::wrap_hevc_grid_with_alpha;
+
+// The numbers of panel P: one tile of 64 × 64, 8 bits, no option.
+fn bare() -> Panel {
+    Panel {
+        dims: GridDims {
+            cols: 1,
+            rows: 1,
+            tile_w: 64,
+            tile_h: 64,
+            full_w: 64,
+            full_h: 64,
+        },
+        bit_depth: BitDepth::Eight,
+        color_meta: ColorMetadata {
+            cicp: MaybeCicp::None,
+            icc: Part::Absent,
+        },
+        metadata: Metadata {
+            orientation: Orientation::Normal,
+            content_light_level: MaybeLightLevel::None,
+            exif: Part::Absent,
+        },
+        gain_map: MaybeGainMap::None,
+    }
+}
+
+// The colour of the picture and of its alternate, by code points and by a profile.
+fn wide() -> ColorMetadata {
+    ColorMetadata {
+        cicp: MaybeCicp::Some(Cicp {
+            primaries: Primaries::Bt2020,
+            transfer: TransferFunction::Smpte2084,
+            matrix: MatrixCoefficients::Bt2020Ncl,
+            full_range: false,
+        }),
+        icc: Part::Present,
+    }
+}
+
+// The numbers of a gain map with a tone map.
+fn gain() -> EncodedGainMap {
+    EncodedGainMap {
+        width: 32,
+        height: 16,
+        bit_depth: BitDepth::Eight,
+        cicp: Cicp {
+            primaries: Primaries::Bt709,
+            transfer: TransferFunction::Srgb,
+            matrix: MatrixCoefficients::Identity,
+            full_range: true,
+        },
+        tmap: Part::Present,
+        alternate_color: MaybeColorMetadata::Some(wide()),
+    }
+}
+
+// The numbers of a panel with every part: two tiles of 64 × 48 for a picture of 100 × 40.
+fn full() -> Panel {
+    Panel {
+        dims: GridDims {
+            cols: 2,
+            rows: 1,
+            tile_w: 64,
+            tile_h: 48,
+            full_w: 100,
+            full_h: 40,
+        },
+        bit_depth: BitDepth::Ten,
+        color_meta: wide(),
+        metadata: Metadata {
+            orientation: Orientation::Transverse,
+            content_light_level: MaybeLightLevel::Some(ContentLightLevel {
+                max_content_light_level: 1000,
+                max_pic_average_light_level: 400,
+            }),
+            exif: Part::Present,
+        },
+        gain_map: MaybeGainMap::Some(gain()),
+    }
+}
+
+fn write_bare() {
+    let mut out = [0xEEu8; 560];
+    let absent = [0u8; 0];
+    wrap_hevc_grid_with_alpha(
+        bare(),
+        &[1, 1],
+        &[1, 4],
+        &[1],
+        &[1],
+        &[0xAA],
+        &[0xBB],
+        &absent,
+        &absent,
+        &absent,
+        &absent,
+        &absent,
+        &absent,
+        &absent,
+        &mut out,
+    );
+    io::write_all(1, &out);
+}
+
+fn write_full() {
+    let mut out = [0xEEu8; 1186];
+    wrap_hevc_grid_with_alpha(
+        full(),
+        &[1, 4, 7],
+        &[1, 1],
+        &[2, 1],
+        &[1, 3],
+        &[0xA1, 0xA2, 0xA3],
+        &[0xB1, 0xB2, 0xB3, 0xB4],
+        &[0x11, 0x12, 0x13],
+        &[0x21, 0x22],
+        &[1, 1, 0x33],
+        &[0x31, 0x32],
+        &[0x41, 0x42, 0x43],
+        &[0x51],
+        &[0x61, 0x62],
+        &mut out,
+    );
+    io::write_all(1, &out);
+}
+
+fn main() {
+    write_bare();
+    write_full();
+}

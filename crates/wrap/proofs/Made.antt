@@ -1,0 +1,164 @@
+-- The three boxes that are written are the file: the places that iloc states are the definition's, and the parts are all of what is lent.
+use mathlib.Core.Path.{_≡_, refl, sym, ap, _∙_}
+use mathlib.Core.Option.{Option, none, some}
+use mathlib.Core.List.{List, [], _∷_, _++_, map, map-append, flatten}
+use Prim.Native.Nat.{ℕ, _+_}
+use native.Mathlib.Omega.{arith}
+use lib.ListN.{length}
+use Rattle.octets.specs.Numbers.{_‖_, total}
+use Rattle.octets.specs.Boxes.{Box, box, full, boxes}
+use Rattle.panel.specs.Panel.{Tiles, Panel}
+use Rattle.panel.specs.Of.{Lent, panel-of, part, gain-of}
+use Rattle.panel.specs.Items.{ordinary, given, has, listed, tone-of, shape, exif-payload, gain-payloads, other-payloads, colour-grid, alpha-tile, alpha-grid, exif-id}
+use Rattle.panel.specs.Iloc.{Location, descriptor, extents, located, locations}
+use Rattle.panel.specs.Ipco.{slots, ipco}
+use Rattle.panel.specs.Ipma.{positions, associations, ipma}
+use Rattle.panel.specs.File.{gain-rext, ftyp, head, grpl, idat, meta, mdat, data-at, file}
+use Rattle.panel.specs.Refusal.{refusal}
+use Rattle.panel.specs.declared.Panel.{Panel as Numbers}
+use Rattle.panel.specs.declared.color.Part.{Part}
+use Rattle.panel.specs.declared.color.Part.the-variants.{Absent, Present}
+use Rattle.panel.specs.declared.gain_map.MaybeGainMap.{MaybeGainMap}
+use Rattle.panel.specs.declared.gain_map.MaybeGainMap.the-variants as G
+use Rattle.panel.proofs.Payloads.{flatten-samples, lengths-samples, cut, locations-runs}
+use Rattle.length.specs.Parts.{Even}
+use Rattle.boxes.specs.Spans.{spans}
+use Rattle.boxes.proofs.Spans.{extents-spans}
+use Rattle.gain_map.specs.Data.{long, gain-data}
+use Rattle.gain_map.specs.declared.location.GainLengths.{GainLengths}
+use Rattle.layout.specs.Laid.{Laid}
+use Rattle.layout.specs.declared.Layout.{Layout}
+use Rattle.isobmff.specs.Locations.{other-sizes, placed}
+use Rattle.isobmff.specs.Parts.{lent-props, exif-bytes, exif-size}
+use Rattle.isobmff.specs.Roles.{its-of, Placed}
+use Rattle.isobmff.specs.Sections.{item-boxes, property-boxes}
+use Rattle.isobmff.specs.declared.association.Places.{Places}
+use Rattle.isobmff.proofs.Parts.{ipco-parts, mdat-parts}
+use Rattle.wrap.specs.Gains.{gain-lengths}
+use Rattle.wrap.proofs.Ready.{even, color-sum, alpha-sum, same-associations, same-dims, same-tiles, same-alpha}
+
+-- ---- the sizes of the payloads behind the samples
+
+exif-sizes : (e : Option (List ℕ)) → map length (exif-payload e) ≡ given (has e) (exif-size e ∷ [])
+exif-sizes none = refl
+exif-sizes (some e) = let h : length ((0 ∷ 0 ∷ 0 ∷ 0 ∷ []) ++ e) ≡ 4 + length e = omega arith in ap (λ (k : ℕ). k ∷ []) h
+
+tone-sizes : (p : Part) (t : List ℕ) → map length (listed (part p t)) ≡ given (has (part p t)) (long (part p t) ∷ [])
+tone-sizes Absent t = refl
+tone-sizes Present t = refl
+
+abbrev gains : MaybeGainMap → Lent → List ℕ
+gains g l =
+    let n = gain-lengths g (l .gain-sample) (l .gain-xmp) (l .gain-tmap) in
+    given (has (gain-of g l)) (n .sample ∷ n .xmp ∷ []) ‖ given (has (tone-of (gain-of g l))) (n .tmap ∷ [])
+
+gain-sizes : (g : MaybeGainMap) (l : Lent) → map length (gain-payloads (gain-of g l)) ≡ gains g l
+gain-sizes G.None l = refl
+gain-sizes (G.Some g) l = ap (λ (r : List ℕ). length (l .gain-sample) ∷ length (l .gain-xmp) ∷ r) (tone-sizes (g .tmap) (l .gain-tmap))
+
+module _ (n : Numbers) (l : Lent) where
+  abbrev its-exif : ℕ
+  its-exif = exif-size (part (n .metadata .exif) (l .exif))
+
+  other-lengths : map length (other-payloads (panel-of n l)) ≡ other-sizes (shape (panel-of n l)) its-exif (gain-lengths (n .«gain_map») (l .gain-sample) (l .gain-xmp) (l .gain-tmap))
+  unfolding panel-of
+  other-lengths =
+      let e = exif-payload (part (n .metadata .exif) (l .exif)) in
+      map-append length e (gain-payloads (gain-of (n .«gain_map») l)) ∙ (λ i. exif-sizes (part (n .metadata .exif) (l .exif)) i ++ gain-sizes (n .«gain_map») l i)
+
+-- ---- iloc's entries
+
+its-spans : (at : ℕ) (t : Tiles) → total (t .lengths) ≡ length (t .bytes) → extents at (cut t) ≡ spans at (t .lengths)
+its-spans at t h = extents-spans at (cut t) ∙ ap (spans at) (lengths-samples (t .lengths) (t .bytes) (omega (arith, h)))
+
+pub placed-locations : (p : Panel) → Even p → (at : ℕ) {os : List ℕ} → map length (other-payloads p) ≡ os
+    → placed (shape p) (length (descriptor (p .dims))) at (at + length (p .tiles .bytes)) (at + length (p .tiles .bytes) + length (p .alpha .bytes)) (p .tiles .lengths) (p .alpha .lengths) os
+    ≡ locations at p
+placed-locations p h at {os} ho =
+    let c = flatten-samples (p .tiles .lengths) (p .tiles .bytes) (h .sum) in
+    let a = flatten-samples (p .alpha .lengths) (p .alpha .bytes) (h .alpha-sum) in
+    let b : at + length (flatten (cut (p .tiles))) ≡ at + length (p .tiles .bytes) = ap (λ (x : List ℕ). at + length x) c in
+    let d : at + length (flatten (cut (p .tiles))) + length (flatten (cut (p .alpha))) ≡ at + length (p .tiles .bytes) + length (p .alpha .bytes)
+    = λ i. at + length (c i) + length (a i) in
+    let x : extents at (cut (p .tiles)) ≡ spans at (p .tiles .lengths) = its-spans at (p .tiles) (h .sum) in
+    let y : extents (at + length (flatten (cut (p .tiles)))) (cut (p .alpha)) ≡ spans (at + length (p .tiles .bytes)) (p .alpha .lengths)
+    = ap (λ (k : ℕ). extents k (cut (p .alpha))) b ∙ its-spans (at + length (p .tiles .bytes)) (p .alpha) (h .alpha-sum) in
+    let z : extents (at + length (flatten (cut (p .tiles))) + length (flatten (cut (p .alpha)))) (other-payloads p) ≡ spans (at + length (p .tiles .bytes) + length (p .alpha .bytes)) os
+    = ap (λ (k : ℕ). extents k (other-payloads p)) d ∙ extents-spans (at + length (p .tiles .bytes) + length (p .alpha .bytes)) (other-payloads p)
+    ∙ ap (spans (at + length (p .tiles .bytes) + length (p .alpha .bytes))) ho in
+    sym (locations-runs at p (h .counts)
+    ∙ (λ i. located 1 0 (x i) ‖ located (colour-grid (shape p)) 1 (record { offset = 0; size = length (descriptor (p .dims)) } ∷ []) ‖ located (alpha-tile (shape p)) 0 (y i)
+    ‖ located (alpha-grid (shape p)) 1 (record { offset = length (descriptor (p .dims)); size = length (descriptor (p .dims)) } ∷ []) ‖ located (exif-id (shape p)) 0 (z i)))
+
+-- ---- the file
+
+module _ (n : Numbers) (l : Lent) (y : Layout) (z : Places) (ok : refusal ordinary (panel-of n l) ≡ 0) (e : Laid (panel-of n l) y) (f : Placed (panel-of n l) z) where
+  abbrev p : Panel
+  p = panel-of n l
+
+  -- the places that the writer of iloc is given
+  abbrev pub its-places : List Location
+  its-places =
+      placed (y .shape) (y .descriptor) (y .«color_data») (y .«alpha_data») (y .«other_data») (l .tiles .lengths) (l .alpha .lengths)
+      (other-sizes (y .shape) (exif-size (part (n .metadata .exif) (l .exif))) (gain-lengths (n .«gain_map») (l .gain-sample) (l .gain-xmp) (l .gain-tmap)))
+
+  its-locations : its-places ≡ locations (data-at ordinary p) p
+  its-locations =
+      (λ i. placed (e .items i) (e .grid i) (e .color-data i) (e .alpha-data i) (e .other-data i) (sym (same-tiles n l) i .lengths) (sym (same-alpha n l) i .lengths)
+      (other-sizes (e .items i) (exif-size (part (n .metadata .exif) (l .exif))) (gain-lengths (n .«gain_map») (l .gain-sample) (l .gain-xmp) (l .gain-tmap))))
+      ∙ placed-locations p (even n l y z ok e f) (data-at ordinary p) (other-lengths n l)
+
+  abbrev pub its-meta : Box
+  its-meta =
+      full
+      "meta"
+      0
+      0
+      (boxes
+      (item-boxes (y .shape) its-places
+      ‖ property-boxes (panel-of n (lent-props (l .tiles .config) (l .alpha .config) (l .icc) (l .gain-hvcc) (l .alternate-icc))) (y .shape) z (n .dims)))
+
+  made-meta : its-meta ≡ meta ordinary (locations (data-at ordinary p) p) p
+  made-meta =
+      let c : ipco (panel-of n (lent-props (l .tiles .config) (l .alpha .config) (l .icc) (l .gain-hvcc) (l .alternate-icc))) ≡ ipco p = sym (ipco-parts n l) in
+      let a : associations (shape p) (its-of z) ≡ associations (shape p) (positions 1 (slots p)) = same-associations n l y z ok e f in
+      let d : n .dims ≡ p .dims = sym (same-dims n l) in
+      (λ i. full "meta" 0 0 (boxes (item-boxes (e .items i) (its-locations i) ‖ box "iprp" (boxes (c i ∷ ipma ordinary (associations (e .items i) (its-of z)) ∷ [])) ∷ grpl (e .items i) ‖ idat (d i) ∷ [])))
+      ∙ (λ i. full "meta" 0 0 (boxes (item-boxes (shape p) (locations (data-at ordinary p) p) ‖ box "iprp" (boxes (ipco p ∷ ipma ordinary (a i) ∷ [])) ∷ grpl (shape p) ‖ idat (p .dims) ∷ [])))
+
+  abbrev pub its-mdat : Box
+  its-mdat =
+      box "mdat" (l .tiles .bytes ‖ l .alpha .bytes ‖ exif-bytes (part (n .metadata .exif) (l .exif)) ‖ gain-data (n .«gain_map») (l .gain-sample) (l .gain-xmp) (l .gain-tmap))
+
+  made-mdat : its-mdat ≡ mdat p
+  made-mdat = sym (mdat-parts n l (color-sum n l y z ok e f) (alpha-sum n l y z ok e f))
+
+  made-head : ftyp (y .«color_rext») (y .«gain_rext») (y .shape .tone) ≡ head p
+  made-head = λ i. ftyp (e .color-rext i) (e .gain-rext i) (e .items i .tone)
+
+  pub made-file : boxes (ftyp (y .«color_rext») (y .«gain_rext») (y .shape .tone) ∷ its-meta ∷ its-mdat ∷ []) ≡ file ordinary p
+  unfolding file
+  made-file = λ i. boxes (made-head i ∷ made-meta i ∷ made-mdat i ∷ [])
+
+  -- with sizes that are said to be those of what is lent
+  pub made-file-of : {x : ℕ} {g : GainLengths} → x ≡ exif-size (part (n .metadata .exif) (l .exif)) → g ≡ gain-lengths (n .«gain_map») (l .gain-sample) (l .gain-xmp) (l .gain-tmap)
+      → boxes (
+      ftyp (y .«color_rext») (y .«gain_rext») (y .shape .tone)
+      ∷ full "meta" 0 0 (boxes (
+      item-boxes (y .shape) (placed (y .shape) (y .descriptor) (y .«color_data») (y .«alpha_data») (y .«other_data») (l .tiles .lengths) (l .alpha .lengths) (other-sizes (y .shape) x g))
+      ‖ property-boxes (panel-of n (lent-props (l .tiles .config) (l .alpha .config) (l .icc) (l .gain-hvcc) (l .alternate-icc))) (y .shape) z (n .dims)
+      ))
+      ∷ its-mdat
+      ∷ []
+      ) ≡ file ordinary p
+  made-file-of hx hg =
+      (λ i. boxes (
+      ftyp (y .«color_rext») (y .«gain_rext») (y .shape .tone)
+      ∷ full "meta" 0 0 (boxes (
+      item-boxes (y .shape) (placed (y .shape) (y .descriptor) (y .«color_data») (y .«alpha_data») (y .«other_data») (l .tiles .lengths) (l .alpha .lengths) (other-sizes (y .shape) (hx i) (hg i)))
+      ‖ property-boxes (panel-of n (lent-props (l .tiles .config) (l .alpha .config) (l .icc) (l .gain-hvcc) (l .alternate-icc))) (y .shape) z (n .dims)
+      ))
+      ∷ its-mdat
+      ∷ []
+      ))
+      ∙ made-file

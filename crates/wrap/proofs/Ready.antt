@@ -1,0 +1,247 @@
+-- What an accepted panel's layout and places give to the writers of its three boxes.
+use mathlib.Core.Path.{_≡_, refl, sym, ap, _∙_}
+use mathlib.Core.Bool.{Bool, true, false, cond}
+use mathlib.Core.Option.{Option, none, some}
+use mathlib.Core.List.{List, [], _∷_, _++_, flatMap}
+use Prim.Native.Nat.{ℕ, _+_, _*_, _≤_, _<_}
+use native.Mathlib.Nat.{mul-comm}
+use native.Mathlib.Omega.{arith}
+use lib.ListN.{length, length-append}
+use Rattle.octets.specs.Numbers.{_‖_, total}
+use Rattle.octets.proofs.Lists.{flatMap-map, flatMap-one, flatMap-append, length-flatMap}
+use Rattle.panel.specs.Panel.{Tiles, Panel, Gain}
+use Rattle.panel.specs.Of.{Lent, panel-of, part}
+use Rattle.panel.specs.Items.{ordinary, given, has, tone-of, shape, ids-from, gain-id, colour-grid, alpha-tile, alpha-grid}
+use Rattle.panel.specs.Ipco
+use Rattle.panel.specs.Ipco.{slots, ipco}
+use Rattle.panel.specs.Ipma.{Association, _with_, each, essential, positions, associations, association, ipma}
+use Rattle.panel.specs.File.{rext, gain-rext, data-at, file, iprp}
+use Rattle.panel.specs.Refusal.{last-id, refusal}
+use Rattle.panel.specs.declared.Panel.{Panel as Numbers}
+use Rattle.panel.specs.declared.Shape.{Shape}
+use Rattle.panel.proofs.Ids.{length-ids-from}
+use Rattle.panel.proofs.Accepted.{Accepted, accepted}
+use Rattle.length.specs.Parts.{Even}
+use Rattle.length.specs.Properties.{ipma-size}
+use Rattle.length.specs.Size.{iloc-size, iinf-size, iref-size, mdat-size, size}
+use Rattle.length.proofs.Boxes.{length-iloc, length-iinf, length-iref}
+use Rattle.length.proofs.Properties.{length-ipco, length-ipma}
+use Rattle.length.proofs.File.{length-head, length-iprp, length-idat, length-meta, length-mdat, data-at-size, length-file, even-accepted}
+use Rattle.boxes.specs.Runs.{places, Shaped}
+use Rattle.boxes.specs.Sizes.{Sided, ftyp-size}
+use Rattle.boxes.proofs.Marks.{length-places, length-essential}
+use Rattle.gain_map.specs.Places.{image-list, tone-list, image-count, tone-count}
+use Rattle.gain_map.specs.Data.{gain-data-size}
+use Rattle.layout.specs.Laid.{Laid}
+use Rattle.layout.specs.declared.Layout.{Layout}
+use Rattle.isobmff.specs.Parts.{lent-props, exif-size}
+use Rattle.isobmff.specs.Places.{color-grid-list, alpha-grid-list, color-entries, alpha-entries}
+use Rattle.isobmff.specs.Roles.{its-of, Placed, ipma-bytes}
+use Rattle.isobmff.specs.Sections.{item-boxes-size, Item-sizes, iprp-bytes, idat-bytes, property-boxes-size, Property-sizes}
+use Rattle.isobmff.specs.declared.association.Places.{Places}
+use Rattle.isobmff.proofs.Joins.{length-color-grid-list, length-alpha-grid-list}
+use Rattle.isobmff.proofs.Associations.{gain-entries, entries-joined}
+use Rattle.panel.specs.declared.gain_map.MaybeGainMap.{MaybeGainMap}
+use Rattle.panel.specs.declared.gain_map.MaybeGainMap.the-variants as G
+use Rattle.wrap.specs.Gains.{gain-lengths}
+use Rattle.isobmff.proofs.Parts.{ipco-size-parts, mdat-sum}
+
+-- ---- ipma
+
+long-one : (id : ℕ) (l : List ℕ) {k : ℕ} → length l ≡ k → length (association ordinary (id with l)) ≡ 3 + k
+long-one id l h = omega (arith, h)
+
+long-last : (id : ℕ) (l : List ℕ) {k : ℕ} → length l ≡ k → length (flatMap (association ordinary) ((id with l) ∷ [])) ≡ 3 + k
+long-last id l h = ap length (flatMap-one (association ordinary) (id with l)) ∙ long-one id l h
+
+long-each : (first n : ℕ) (l : List ℕ) {k : ℕ} → length l ≡ k → length (flatMap (association ordinary) (each first n l)) ≡ (3 + k) * n
+long-each first n l {k} h =
+    ap length (flatMap-map (association ordinary) (λ id. id with l) (ids-from first n))
+    ∙ length-flatMap (λ id. association ordinary (id with l)) (3 + k) (λ id. long-one id l h) (ids-from first n)
+    ∙ ap (λ (m : ℕ). m * (3 + k)) (length-ids-from first n)
+    ∙ mul-comm n (3 + k)
+
+long-given : (b : Bool) (id : ℕ) (l : List ℕ) {k : ℕ} → length l ≡ k → length (flatMap (association ordinary) (given b ((id with l) ∷ []))) ≡ cond b (3 + k) 0
+unfolding flatMap
+long-given true id l h = long-last id l h
+long-given false id l h = refl
+
+-- entries behind entries
+long-both : (x y : List Association) {m n : ℕ} → length (flatMap (association ordinary) x) ≡ m → length (flatMap (association ordinary) y) ≡ n
+    → length (flatMap (association ordinary) (x ++ y)) ≡ m + n
+long-both x y h k =
+    ap length (flatMap-append (association ordinary) x y) ∙ length-append (flatMap (association ordinary) x) (flatMap (association ordinary) y) ∙ (λ i. h i + k i)
+
+pub ipma-long : (s : Shape) (z : Places) → 8 + length (ipma ordinary (associations s (its-of z)) .body) ≡ ipma-bytes s z
+ipma-long s z =
+    let c = z .color in
+    let a = z .alpha in
+    let o = z .options in
+    let colors = long-both (each 1 (s .tiles) (essential (places (c .hvcc)) ‖ essential (places (c .«ispe_tile»)) ‖ essential (places (c .colr)))) ((colour-grid s with color-grid-list c o) ∷ [])
+    (long-each 1 (s .tiles) (essential (places (c .hvcc)) ‖ essential (places (c .«ispe_tile»)) ‖ essential (places (c .colr))) {k = c .hvcc .count + (c .«ispe_tile» .count + c .colr .count)} (simp (length-append, length-essential)))
+    (long-last (colour-grid s) (color-grid-list c o) (length-color-grid-list c o)) in
+    let alphas = long-both (each (alpha-tile s) (s .tiles) (essential (places (a .hvcc)) ‖ essential (places (c .«ispe_tile»)))) ((alpha-grid s with alpha-grid-list (c .«ispe_full») a o) ∷ [])
+    (long-each (alpha-tile s) (s .tiles) (essential (places (a .hvcc)) ‖ essential (places (c .«ispe_tile»))) {k = a .hvcc .count + c .«ispe_tile» .count} (simp (length-append, length-essential)))
+    (long-last (alpha-grid s) (alpha-grid-list (c .«ispe_full») a o) (length-alpha-grid-list (c .«ispe_full») a o)) in
+    let image = image-list (z .image) (o .irot) (o .imir) in
+    let gains = long-both (given (s .gain) ((gain-id s with image) ∷ [])) (given (s .tone) ((gain-id s + 2 with tone-list (z .tone)) ∷ []))
+    (long-given (s .gain) (gain-id s) image {k = image-count (z .image) (o .irot) (o .imir)} (simp (length-append, length-essential, length-places)))
+    (long-given (s .tone) (gain-id s + 2) (tone-list (z .tone)) {k = tone-count (z .tone)} (simp (length-append, length-places))) in
+    let x = flatMap (association ordinary) (color-entries s c o) in
+    let y = flatMap (association ordinary) (alpha-entries s c a o) in
+    let w = flatMap (association ordinary) (gain-entries s z) in
+    let joined : length x + (length y + length w) ≡ length (flatMap (association ordinary) (associations s (its-of z)))
+    = (λ i. length x + sym (length-append y w) i) ∙ sym (length-append x (y ++ w)) ∙ ap length (entries-joined s z) in
+    let head : 8 + length (ipma ordinary (associations s (its-of z)) .body) ≡ 16 + length (flatMap (association ordinary) (associations s (its-of z))) = omega arith in
+    head ∙ ap (λ (k : ℕ). 16 + k) (sym joined ∙ (λ i. colors i + (alphas i + gains i)))
+
+-- ---- what is lent, read off the panel
+
+toned-only : (g : Option Gain) → has (tone-of g) ≡ true → has g ≡ true
+toned-only none e = e
+toned-only (some g) e = refl
+
+gain-bound : (g : MaybeGainMap) (s x t : List ℕ) → gain-lengths g s x t .sample + gain-lengths g s x t .xmp ≤ gain-data-size g s x t
+gain-bound G.None s x t = omega arith
+gain-bound (G.Some g) s x t = omega arith
+
+module _ (n : Numbers) (l : Lent) where
+  abbrev its-props : Lent
+  its-props = lent-props (l .tiles .config) (l .alpha .config) (l .icc) (l .gain-hvcc) (l .alternate-icc)
+
+  -- mdat, as its writer counts it
+  abbrev pub mdat-bytes : ℕ
+  mdat-bytes =
+      8 + (length (l .tiles .bytes) + (length (l .alpha .bytes) + (exif-size (part (n .metadata .exif) (l .exif)) + gain-data-size (n .«gain_map») (l .gain-sample) (l .gain-xmp) (l .gain-tmap))))
+
+  pub same-dims : panel-of n l .dims ≡ n .dims
+  unfolding panel-of
+  same-dims = refl
+
+  pub same-tiles : panel-of n l .tiles ≡ l .tiles
+  unfolding panel-of
+  same-tiles = refl
+
+  pub same-alpha : panel-of n l .alpha ≡ l .alpha
+  unfolding panel-of
+  same-alpha = refl
+
+  module _ (y : Layout) (z : Places) (ok : refusal ordinary (panel-of n l) ≡ 0) (e : Laid (panel-of n l) y) (f : Placed (panel-of n l) z) where
+    abbrev p : Panel
+    p = panel-of n l
+
+    abbrev q : Panel
+    q = panel-of n its-props
+
+    pub good : Accepted ordinary p
+    good = accepted ordinary p ok
+
+    pub even : Even p
+    even = even-accepted ordinary p good
+
+    fits : size ordinary p < 4294967296
+    fits = omega (arith, length-file ordinary p even, good .size)
+
+    pub shaped : Shaped (y .shape)
+    shaped =
+        let h : last-id (shape p) < 65536 = good .last in
+        let at : y .shape ≡ shape p = e .items in
+        record {
+          last = omega (arith, h, ap last-id at);
+          toned = λ t. ap (λ (s : Shape). s .gain) at ∙ toned-only (p .gain) (sym (ap (λ (s : Shape). s .tone) at) ∙ t);
+        }
+
+    pub sided : Sided (n .dims)
+    sided = rw (← same-dims) (record { rows = good .rows; rows-most = good .rows-most; cols = good .cols; cols-most = good .cols-most })
+
+    pub item-sizes : Item-sizes y
+    item-sizes =
+        let at : shape p ≡ y .shape = sym (e .items) in
+        record {
+          shaped = shaped;
+          iloc = e .iloc ∙ ap (λ (k : ℕ). 8 + k) (length-iloc ordinary (data-at ordinary p) p even ∙ ap (iloc-size ordinary) at);
+          iinf = e .iinf ∙ ap (λ (k : ℕ). 8 + k) (length-iinf ordinary (shape p) ∙ ap (iinf-size ordinary) at);
+          iref = e .iref ∙ ap (λ (k : ℕ). 8 + k) (length-iref ordinary (shape p) ∙ ap (iref-size ordinary) at);
+        }
+
+    pub same-associations : associations (shape p) (its-of z) ≡ associations (shape p) (positions 1 (slots p))
+    same-associations = ap (associations (shape p)) (λ i r. f .role r i)
+
+    its-ipma : 8 + ipma-size ordinary p ≡ ipma-bytes (shape p) z
+    its-ipma =
+        ap (λ (k : ℕ). 8 + k) (sym (length-ipma ordinary p)) ∙ ap (λ (a : List Association). 8 + length (ipma ordinary a .body)) (sym same-associations) ∙ ipma-long (shape p) z
+
+    pub property-sizes : Property-sizes q y z (n .dims)
+    property-sizes =
+        let at : shape p ≡ y .shape = sym (e .items) in
+        record {
+          ipco = e .ipco ∙ ap (λ (k : ℕ). 8 + k) (length-ipco p ∙ ipco-size-parts n l);
+          ipma = e .ipma ∙ ap (λ (k : ℕ). 8 + k) (length-ipma ordinary p) ∙ its-ipma ∙ ap (λ (s : Shape). ipma-bytes s z) at;
+          iprp = e .iprp ∙ ap (λ (k : ℕ). 8 + k) (length-iprp ordinary p) ∙ (λ i. 8 + ((8 + ipco-size-parts n l i) + its-ipma i)) ∙ ap (λ (s : Shape). iprp-bytes q s z) at;
+          idat = omega (arith, e .idat, length-idat (p .dims)) ∙ ap idat-bytes same-dims;
+          short = omega (arith, fits, ipco-size-parts n l);
+        }
+
+    pub meta-sum : y .meta ≡ 12 + (item-boxes-size (y .shape) + property-boxes-size q (y .shape) z (n .dims))
+    meta-sum =
+        let at : shape p ≡ y .shape = sym (e .items) in
+        let x : y .meta ≡ 12 + (item-boxes-size (shape p) + property-boxes-size q (shape p) z (p .dims))
+        = omega (arith, e .meta, length-meta ordinary (data-at ordinary p) p even, ipco-size-parts n l, its-ipma) in
+        x ∙ (λ i. 12 + (item-boxes-size (at i) + property-boxes-size q (at i) z (same-dims i)))
+
+    pub ftyp-sum : y .ftyp ≡ ftyp-size (y .«color_rext») (y .«gain_rext») (y .shape .tone)
+    ftyp-sum =
+        let x : y .ftyp ≡ ftyp-size (rext (p .tiles .config)) (gain-rext (p .gain)) (shape p .tone) = omega (arith, e .ftyp, length-head p) in
+        x ∙ sym (λ i. ftyp-size (e .color-rext i) (e .gain-rext i) (e .items i .tone))
+
+    its-mdat : 8 + mdat-size p ≡ mdat-bytes
+    its-mdat = sym (ap (λ (k : ℕ). 8 + k) (mdat-sum n l))
+
+    pub mdat-whole : y .mdat ≡ mdat-bytes
+    mdat-whole = e .mdat ∙ ap (λ (k : ℕ). 8 + k) (length-mdat p even) ∙ its-mdat
+
+    pub mdat-short : mdat-bytes < 4294967296
+    mdat-short = omega (arith, fits, its-mdat)
+
+    pub color-count : length (l .tiles .lengths) ≡ y .shape .tiles
+    color-count = ap (λ (t : Tiles). length (t .lengths)) (sym same-tiles) ∙ ap (λ (s : Shape). s .tiles) (sym (e .items))
+
+    pub alpha-count : length (l .alpha .lengths) ≡ y .shape .tiles
+    alpha-count = ap (λ (t : Tiles). length (t .lengths)) (sym same-alpha) ∙ even .counts ∙ ap (λ (s : Shape). s .tiles) (sym (e .items))
+
+    pub color-sum : total (l .tiles .lengths) ≡ length (l .tiles .bytes)
+    color-sum = ap (λ (t : Tiles). total (t .lengths)) (sym same-tiles) ∙ even .sum ∙ ap (λ (t : Tiles). length (t .bytes)) same-tiles
+
+    pub alpha-sum : total (l .alpha .lengths) ≡ length (l .alpha .bytes)
+    alpha-sum = ap (λ (t : Tiles). total (t .lengths)) (sym same-alpha) ∙ even .alpha-sum ∙ ap (λ (t : Tiles). length (t .bytes)) same-alpha
+
+    color-at : y .«color_data» + mdat-bytes ≡ 8 + size ordinary p
+    color-at = omega (arith, e .color-data, data-at-size ordinary p even, its-mdat)
+
+    pub color-end : y .«color_data» + total (l .tiles .lengths) < 4294967296
+    color-end = omega (arith, fits, color-at, color-sum)
+
+    pub alpha-end : y .«alpha_data» + total (l .alpha .lengths) < 4294967296
+    alpha-end = omega (arith, fits, color-at, alpha-sum, e .alpha-data, e .color-data, ap (λ (t : Tiles). length (t .bytes)) same-tiles)
+
+    pub other-end : let g = gain-lengths (n .«gain_map») (l .gain-sample) (l .gain-xmp) (l .gain-tmap) in
+        y .«other_data» + (exif-size (part (n .metadata .exif) (l .exif)) + (g .sample + g .xmp)) < 4294967296
+    other-end =
+        omega (
+          arith,
+          fits,
+          color-at,
+          e .other-data,
+          e .color-data,
+          ap (λ (t : Tiles). length (t .bytes)) same-tiles,
+          ap (λ (t : Tiles). length (t .bytes)) same-alpha,
+          gain-bound (n .«gain_map») (l .gain-sample) (l .gain-xmp) (l .gain-tmap),
+        )
+
+    -- the whole file
+    pub file-sum : length (file ordinary p) ≡ ftyp-size (y .«color_rext») (y .«gain_rext») (y .shape .tone)
+        + ((12 + (item-boxes-size (y .shape) + property-boxes-size q (y .shape) z (n .dims))) + mdat-bytes)
+    file-sum =
+        let x : length (file ordinary p) ≡ y .ftyp + (y .meta + mdat-bytes)
+        = omega (arith, length-file ordinary p even, its-mdat, e .ftyp, length-head p, e .meta, length-meta ordinary (data-at ordinary p) p even) in
+        x ∙ (λ i. ftyp-sum i + (meta-sum i + mdat-bytes))

@@ -1,0 +1,13 @@
+-- The lengths of the gain map's payloads, from what is lent.
+use mathlib.Core.List.{List}
+use Prim.Native.Nat.{ℕ}
+use lib.ListN.{length}
+use Rattle.panel.specs.Of.{part}
+use Rattle.panel.specs.declared.gain_map.MaybeGainMap.{MaybeGainMap}
+use Rattle.panel.specs.declared.gain_map.MaybeGainMap.the-variants as G
+use Rattle.gain_map.specs.Data.{long}
+use Rattle.gain_map.specs.declared.location.GainLengths.{GainLengths}
+
+abbrev pub gain-lengths : MaybeGainMap → List ℕ → List ℕ → List ℕ → GainLengths
+gain-lengths G.None sample xmp tone = record { sample = 0; xmp = 0; tmap = 0 }
+gain-lengths (G.Some g) sample xmp tone = record { sample = length sample; xmp = length xmp; tmap = long (part (g .tmap) tone) }
