@@ -1,4 +1,4 @@
-// The file of a panel: its sections in file order, and the two public calls.
+// The sections of the file, in file order, and the positions of its properties.
 
 pub mod association;
 pub mod items;
