@@ -54,6 +54,7 @@ pub struct Layout {
 }
 
 // The length of a panel's file, or why it is refused: the checks 1 to 5 in their order, each with its own answer.
+// Above 40 lines by its parameters, one to a line: each byte part is a slice of its own.
 pub fn file_length(
     panel: Panel,
     color_hvcc: &[u8],
@@ -151,6 +152,7 @@ fn placed(
 }
 
 // The layout of an accepted panel's file.
+// Above 40 lines by its parameters, one to a line: each byte part is a slice of its own.
 pub fn lay_out(
     panel: Panel,
     color_hvcc: &[u8],

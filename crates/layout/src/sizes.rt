@@ -116,6 +116,7 @@ pub fn mdat_size(panel: Panel, y: Lengths) -> u64
 }
 
 // The size of every box. color and gain: the record is of the range extensions' profile.
+// Nine calls: one for each box whose size is worked out, and the group of a tone map.
 pub fn sizes_of(panel: Panel, s: Shape, y: Lengths, color: bool, gain: bool) -> Sizes
     requires { ⌜ s .tiles ≤ 65536 ⌝ }
     ensures { λ r. ⌜ ((l : Lent) → Measured l y → s ≡ shape (panel-of panel l) → color ≡ rext (l .tiles .config) → gain ≡ gain-rext (gain-of (panel .«gain_map») l) → Sized (panel-of panel l) r) ⌝ }

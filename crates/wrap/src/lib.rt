@@ -77,6 +77,7 @@ fn gain_parts(gain: MaybeGainMap, sample: &[u8], xmp: &[u8], tmap: &[u8]) -> Gai
 }
 
 // ftyp, meta and mdat of an accepted panel, from the start of the output on.
+// Above 40 lines by its parameters, one to a line: each byte part is a slice of its own.
 fn write_file(
     out: &mut [u8],
     y: Layout,
@@ -144,6 +145,7 @@ fn write_file(
 }
 
 // The file of a panel in the output, and its length; or why it is refused, and the output as it was.
+// Above 40 lines by its parameters, one to a line: each byte part is a slice of its own.
 pub fn wrap_hevc_grid_with_alpha(
     panel: Panel,
     color_hvcc: &[u8],
