@@ -59,6 +59,10 @@ pub length-extents : (at : ℕ) (l : List (List ℕ)) → length (extents at l) 
 length-extents at [] = refl
 length-extents at (x ∷ l) = ap suc (length-extents (at + length x) l)
 
+pub length-located : (id method : ℕ) (l : List Extent) → length (located id method l) ≡ length l
+length-located id method [] = refl
+length-located id method (e ∷ l) = ap suc (length-located (suc id) method l)
+
 -- where the two pictures have as many tiles, the three runs of payloads stand one by one
 pub locations-runs : (at : ℕ) (p : Panel) → length (p .alpha .lengths) ≡ shape p .tiles
     → locations at p

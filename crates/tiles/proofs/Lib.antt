@@ -1,0 +1,5 @@
+pub mod Tests
+pub mod Samples
+pub mod Answers
+pub mod Entries
+pub mod Found
