@@ -97,6 +97,7 @@ fn first_difference(a: &[u8], b: &[u8]) -> Option<usize> {
 pub fn said(answer: Answer) -> String {
     match answer {
         Ok(length) => format!("length {length}"),
+        Err(u32::MAX) => "a refusal with a length".into(),
         Err(number) => format!("refusal {number}"),
     }
 }

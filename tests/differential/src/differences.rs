@@ -32,13 +32,14 @@ fn expected() -> Vec<(&'static str, Case, Does)> {
     ]
 }
 
-/// Looks at each.
-pub fn run(run: &mut Run) {
+/// Looks at each. Answers how many there are.
+pub fn run(run: &mut Run) -> usize {
     // Upstream's panics are expected here, and their messages would only alarm.
     let hook = std::panic::take_hook();
     std::panic::set_hook(Box::new(|_| ()));
     let seen: Vec<_> = expected().into_iter().map(|(name, case, does)| (name, upstream::write(&case), does)).collect();
     std::panic::set_hook(hook);
+    let count = seen.len();
     for (name, outcome, does) in seen {
         let as_told = match (&does, &outcome) {
             (Does::Writes(bytes), Ok(file)) => file.windows(bytes.len()).any(|w| w == bytes),
@@ -51,4 +52,5 @@ pub fn run(run: &mut Run) {
             run.fail(name, "upstream does something else than docs/DIFFERENCES.md tells", &(does, seen));
         }
     }
+    count
 }

@@ -139,6 +139,7 @@ pub fn write(run: &mut Run) {
     }
     *case.color_samples.last_mut().expect("it is long") = 0xAA;
     println!("huge: P with a colour sample of {count} bytes, its last byte AA");
+    *run.panels.entry(0).or_default() += 1;
     let file = match kahopiru::to_vec(&case.panel()) {
         Ok(file) => file,
         Err(refusal) => return run.fail("the longest file", &refusal.to_string(), &case.dims),
@@ -150,6 +151,7 @@ pub fn write(run: &mut Run) {
         Err(why) => run.fail("the longest file", &format!("upstream: {why}"), &case.dims),
     }
     drop(file);
+    *run.panels.entry(5).or_default() += 1;
     case.color_lengths[0] += 1;
     case.color_samples.push(0);
     let mut out = [0x5A; 600];

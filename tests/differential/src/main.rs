@@ -95,7 +95,8 @@ fn everything(options: &Options) -> Run {
     set("last ids", &mut run, sets::last_ids);
     set("refusals", &mut run, sets::refusals);
     set("lengths around 4 GiB", &mut run, huge::lengths);
-    set("where upstream parts from the specification", &mut run, differences::run);
+    let parts = differences::run(&mut run);
+    println!("where upstream parts from the specification: {parts} panels");
     let codes = codes::run(&mut run);
     println!("codes: {codes} values, in panels with every part");
     set("random panels", &mut run, |run| random(run, options.seed, options.panels));

@@ -10,7 +10,7 @@ pub fn answer(a: sys::Answer) -> Answer {
     match a {
         sys::Answer { refusal: 0, length } => Ok(length),
         sys::Answer { refusal, length: 0 } => Err(refusal),
-        // No refusal has this number: the comparison reports it.
+        // No refusal has this number, so that the comparison reports it.
         sys::Answer { .. } => Err(u32::MAX),
     }
 }
