@@ -7,6 +7,10 @@
 #include <stdio.h>
 #include <string.h>
 
+/* What other languages, which declare these structs again, count on. */
+_Static_assert(sizeof(kahopiru_cicp) == 8 && sizeof(kahopiru_color) == 10 && sizeof(kahopiru_gain) == 32, "sizes");
+_Static_assert(sizeof(kahopiru_panel) == 76 && sizeof(kahopiru_answer) == 16, "sizes");
+
 /* The panel's numbers. What is not named is 0: 8 bits, no rotation, every option absent. */
 static const kahopiru_panel panel = {.cols = 1, .rows = 1, .tile_w = 64, .tile_h = 64, .full_w = 64, .full_h = 64};
 

@@ -6,7 +6,7 @@
  * that the caller lends. Both answer the same of the same panel; only kahopiru_write can find the room too short.
  *
  * The archive libkahopiru.a is for x86-64 with the System V calling convention (Linux, the BSDs). It allocates
- * nothing, keeps nothing between calls and needs no other library; any number of threads may call it at once.
+ * nothing, keeps nothing between calls and calls nobody; any number of threads may call it at once.
  *
  * The bytes of a panel
  * --------------------

@@ -58,6 +58,10 @@ pub struct Answer {
     pub length: u64,
 }
 
+// The sizes that bindings/c/example.c asserts of the header's structs.
+const _: () = assert!(size_of::<Cicp>() == 8 && size_of::<Color>() == 10 && size_of::<Gain>() == 32);
+const _: () = assert!(size_of::<Panel>() == 76 && size_of::<Answer>() == 16);
+
 /// The byte parts, each lent whether or not it belongs to the panel.
 #[derive(Clone, Copy, Debug, PartialEq, Eq, Default)]
 pub struct Lent<'a> {
