@@ -159,7 +159,7 @@ pub struct Times {
     pub median: f64,
 }
 
-/// Times everything in rounds, so that a slow moment of the machine falls on all alike. The first round is not counted.
+/// Times everything in rounds, so that a slow moment falls on all alike. The first round is not counted.
 pub fn rounds(job: &mut Job, what: &[What], count: usize) -> Vec<Times> {
     let mut times = vec![Vec::with_capacity(count); what.len()];
     for round in 0..=count {

@@ -32,6 +32,10 @@ fn main() {
     println!("cargo:rerun-if-changed=build.rs");
     check_target();
     let folder = folder();
+    if !folder.is_absolute() {
+        eprintln!("kahopiru: KAHOPIRU_LIB_DIR must be an absolute path, and is {}", folder.display());
+        exit(1);
+    }
     let archive = folder.join(ARCHIVE);
     println!("cargo:rerun-if-changed={}", archive.display());
     let Ok(found) = archive.canonicalize() else {

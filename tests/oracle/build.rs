@@ -28,6 +28,9 @@ fn variable(name: &str) -> PathBuf {
 fn upstream(manifest: &Path) -> PathBuf {
     let named = std::env::var_os("KAHOPIRU_UPSTREAM").map(PathBuf::from);
     let folder = named.unwrap_or_else(|| manifest.join("../../../shared/docs/src"));
+    if !folder.is_absolute() {
+        stop(&format!("KAHOPIRU_UPSTREAM must be an absolute path, and is {}", folder.display()));
+    }
     folder.canonicalize().unwrap_or_else(|_| {
         stop(&format!(
             "upstream's source is not at {}. Name the folder that holds its src/ in KAHOPIRU_UPSTREAM.",

@@ -63,14 +63,14 @@ fn fields() -> Vec<Field> {
 }
 
 /// Each value of each code in a panel that has every part, and in one that is also refused with 1: 13 comes first.
-/// Answers how many codes were tried.
-pub fn run(run: &mut Run) -> u64 {
+/// Answers how many codes were tried, and how many of them name nothing.
+pub fn run(run: &mut Run) -> (u64, u64) {
     let case = full();
     let mut rng = Rng::new(0);
     let good = raw::numbers(&case, &mut rng);
     let lent = raw::lent(&case, &[]);
     let mut room = Room::new();
-    let mut tried = 0;
+    let (mut tried, mut unnamed) = (0, 0);
     for field in fields() {
         for value in 0..=field.most {
             let named = field.named.iter().any(|range| range.contains(&value));
@@ -80,10 +80,11 @@ pub fn run(run: &mut Run) -> u64 {
                 run.fail(&format!("{} {value}", field.name), &why, &panel);
             }
             tried += 1;
+            unnamed += u64::from(!named);
         }
     }
     null_parts(run);
-    tried
+    (tried, unnamed)
 }
 
 /// A panel in which only one code may be wrong.

@@ -123,6 +123,9 @@ impl Coverage {
             self.add(format!("alpha record of {count}"), move |c| c.alpha_hvcc.len() == count);
             self.add(format!("gain record of {count}"), move |c| gained(c, |g| g.hvcc.len() == count));
         }
+        self.add("colour record of more", |c| c.color_hvcc.len() > 2);
+        self.add("alpha record of more", |c| c.alpha_hvcc.len() > 2);
+        self.add("gain record of more", |c| gained(c, |g| g.hvcc.len() > 2));
         self.both("rext colour record", |c| rext(&c.color_hvcc));
         self.both("rext alpha record", |c| rext(&c.alpha_hvcc));
         self.add("rext gain record, colour not", |c| gained(c, |g| rext(&g.hvcc)) && !rext(&c.color_hvcc));

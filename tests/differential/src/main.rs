@@ -97,8 +97,8 @@ fn everything(options: &Options) -> Run {
     set("lengths around 4 GiB", &mut run, huge::lengths);
     let parts = differences::run(&mut run);
     println!("where upstream parts from the specification: {parts} panels");
-    let codes = codes::run(&mut run);
-    println!("codes: {codes} values, in panels with every part");
+    let (codes, unnamed) = codes::run(&mut run);
+    println!("codes: {codes} values, of which {unnamed} name nothing and are refused with 13");
     set("random panels", &mut run, |run| random(run, options.seed, options.panels));
     if options.huge {
         set("huge", &mut run, huge::write);
@@ -111,7 +111,7 @@ fn report(run: &Run) -> bool {
     let refused: Vec<String> =
         run.panels.iter().filter(|(n, _)| **n != 0).map(|(n, count)| format!("{count} with {n}")).collect();
     println!("panels: {} accepted; refused: {}", run.panels.get(&0).unwrap_or(&0), refused.join(", "));
-    println!("calls compared: {}", run.calls);
+    println!("calls compared: {}, of which {} into too little room, refused with 6", run.calls, run.short_rooms);
     let (unnoticed, made) = selftest::run();
     for name in &unnoticed {
         println!("self-test: {name} was not reported");

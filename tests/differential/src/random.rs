@@ -4,7 +4,7 @@ use crate::panels::{Case, Color, Gain};
 use kahopiru::TransferFunction;
 use kahopiru::{BitDepth, Cicp, ContentLightLevel, GridDims, MatrixCoefficients, Orientation, Primaries};
 
-/// A generator of random numbers (SplitMix64): the same seed gives the same panels on every machine.
+/// A generator of random numbers (SplitMix64): the same seed gives the same panels everywhere.
 pub struct Rng(u64);
 
 impl Rng {

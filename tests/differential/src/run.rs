@@ -17,6 +17,8 @@ pub struct Run {
     rng: Rng,
     /// Panels by their answer: 0 for accepted, else the number of the refusal.
     pub panels: BTreeMap<u32, u64>,
+    /// Writing calls that must find the room too short.
+    pub short_rooms: u64,
     /// Calls whose answer and output were compared.
     pub calls: u64,
     pub failures: u64,
@@ -24,7 +26,7 @@ pub struct Run {
 
 impl Run {
     pub fn new(seed: u64) -> Run {
-        Run { room: Room::new(), rng: Rng::new(!seed), panels: BTreeMap::new(), calls: 0, failures: 0 }
+        Run { room: Room::new(), rng: Rng::new(!seed), panels: BTreeMap::new(), short_rooms: 0, calls: 0, failures: 0 }
     }
 
     /// Compares all that is said and done with a panel. Answers whether it was accepted.
@@ -88,6 +90,7 @@ impl Run {
     /// Both writing calls, the binding's and the archive's own with stray bytes, into so much room.
     fn write_calls(&mut self, case: &Case, file: &[u8], room: usize) -> Result<(), String> {
         let expected = predict::answer(&case.panel(), Some(room));
+        self.short_rooms += if expected == Err(6) { 2 } else { 0 };
         let answer = kahopiru::write(&case.panel(), self.room.lend(room));
         let answer = answer.map(|n| n as u64).map_err(Refusal::number);
         judge(expected, file, answer, &self.room).map_err(|e| format!("write into {room}: {e}"))?;
