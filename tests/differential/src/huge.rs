@@ -1,47 +1,13 @@
 //! Files around 4,294,967,295 bytes. The length call reads no sample, so that the memory lent need not exist.
 
 use crate::compare::same_answer;
+use crate::memory::Zeros;
 use crate::panels::{full, p};
 use crate::predict;
 use crate::run::Run;
 use kahopiru::{Panel, Refusal, Samples};
-use std::ffi::c_void;
 
 const MOST: usize = 4_294_967_295;
-
-unsafe extern "C" {
-    fn mmap(at: *mut c_void, length: usize, access: i32, flags: i32, file: i32, offset: i64) -> *mut c_void;
-    fn munmap(at: *mut c_void, length: usize) -> i32;
-}
-
-/// Zeros that take an address each and, until they are read, no memory.
-struct Zeros {
-    at: *mut c_void,
-    count: usize,
-}
-
-impl Zeros {
-    fn new(count: usize) -> Zeros {
-        const READ: i32 = 1;
-        const PRIVATE_ANONYMOUS_NORESERVE: i32 = 0x02 | 0x20 | 0x4000;
-        // SAFETY: a new mapping of nothing in particular overlaps no memory in use.
-        let at = unsafe { mmap(std::ptr::null_mut(), count, READ, PRIVATE_ANONYMOUS_NORESERVE, -1, 0) };
-        assert!(at as isize != -1, "there is no room for {count} addresses");
-        Zeros { at, count }
-    }
-
-    fn slice(&self) -> &[u8] {
-        // SAFETY: the mapping holds `count` readable bytes, is never written, and lives as long as self.
-        unsafe { std::slice::from_raw_parts(self.at.cast(), self.count) }
-    }
-}
-
-impl Drop for Zeros {
-    fn drop(&mut self) {
-        // SAFETY: this very mapping was made in `new`, and no slice of it outlives self.
-        unsafe { munmap(self.at, self.count) };
-    }
-}
 
 /// Puts a part of some length into a panel.
 type Put = for<'a> fn(&mut Panel<'a>, &'a [u8]);

@@ -5,7 +5,9 @@ mod codes;
 mod compare;
 mod coverage;
 mod differences;
+mod fence;
 mod huge;
+mod memory;
 mod panels;
 mod predict;
 mod random;
@@ -99,6 +101,8 @@ fn everything(options: &Options) -> Run {
     println!("where upstream parts from the specification: {parts} panels");
     let (codes, unnamed) = codes::run(&mut run);
     println!("codes: {codes} values, of which {unnamed} name nothing and are refused with 13");
+    let fenced = fence::run(&mut run, options.seed);
+    println!("fenced: {fenced} panels, every part hard by memory that cannot be touched, before it and behind it");
     set("random panels", &mut run, |run| random(run, options.seed, options.panels));
     if options.huge {
         set("huge", &mut run, huge::write);
