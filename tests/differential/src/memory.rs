@@ -91,7 +91,8 @@ impl Fenced {
 
     /// A list of lengths that was put here as its bytes.
     pub fn lengths(&self) -> &[u32] {
-        // SAFETY: the bytes are those of a list of u32, and a page and a multiple of four from its end are aligned for it.
+        assert!(self.from.is_multiple_of(4) && self.count.is_multiple_of(4), "these are not the bytes of a list");
+        // SAFETY: as for `slice`; the bytes begin at a multiple of four and are whole entries.
         unsafe { std::slice::from_raw_parts(self.at.byte_add(self.from).cast(), self.count / 4) }
     }
 }
