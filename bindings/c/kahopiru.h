@@ -1,0 +1,173 @@
+/*
+ * Kahopiru: a HEIF file writer whose every byte is proved.
+ *
+ * The file holds a colour picture in tiles, an alpha picture in tiles and, where there is one, a gain map with a
+ * tone map. Two calls: kahopiru_file_length answers how long the file will be, kahopiru_write writes it into room
+ * that the caller lends. Both answer the same of the same panel; only kahopiru_write can find the room too short.
+ *
+ * The archive libkahopiru.a is for x86-64 with the System V calling convention (Linux, the BSDs). It allocates
+ * nothing, keeps nothing between calls and calls nobody; any number of threads may call it at once.
+ *
+ * The bytes of a panel
+ * --------------------
+ * Each byte part is lent as a pointer and a length. The lengths of color_lengths and alpha_lengths count entries of
+ * four bytes, aligned as uint32_t is; all other lengths count bytes. A null pointer with length 0 is an empty part.
+ * Present and empty is not the same as absent: whether a part belongs to the panel is said by its has_ field, and
+ * bytes that are lent beside an absent part are ignored. The parts may overlap one another.
+ *
+ *   color_hvcc      decoder configuration record of the colour tiles   always part of the panel
+ *   alpha_hvcc      decoder configuration record of the alpha tiles    always
+ *   color_lengths   length of each colour tile's sample                always
+ *   alpha_lengths   length of each alpha tile's sample                 always
+ *   color_samples   the samples of all colour tiles, back to back      always
+ *   alpha_samples   the samples of all alpha tiles, back to back       always
+ *   icc             ICC profile                                        if color.has_icc
+ *   exif            Exif, from its TIFF header on                      if has_exif
+ *   gain_hvcc       decoder configuration record of the gain image     if has_gain
+ *   gain_sample     the gain image's sample                            if has_gain
+ *   gain_xmp        XMP packet of the gain image                       if has_gain
+ *   gain_tmap       tone map                                           if has_gain and gain.has_tmap
+ *   alternate_icc   ICC profile of the alternate colour                if also gain.has_alternate, gain.alternate.has_icc
+ *
+ * Refusals
+ * --------
+ * A panel is refused with the first of these that holds, in the order 13, 1, 2, 3, 4, 5, 6. Where a call refuses,
+ * it answers length 0 and the output keeps every byte that it had.
+ *
+ *   1   rows or cols is 0 or above 256
+ *   2   color_lengths or alpha_lengths has not exactly rows x cols entries
+ *   3   the colour lengths or the alpha lengths do not sum to the sample bytes lent
+ *   4   the last item id would be above 65,535: 2 x rows x cols + 2, and 1 more for Exif, 2 for a gain map, 1 for a
+ *       tone map
+ *   5   the file would be longer than 4,294,967,295 bytes
+ *   6   the output is shorter than the file (kahopiru_write only)
+ *  13   a code names nothing: a depth, an orientation, a colour code, or a field of 0 or 1 that is neither. Codes
+ *       beside an absent part are not looked at
+ */
+#ifndef KAHOPIRU_H
+#define KAHOPIRU_H
+
+#include <stddef.h>
+#include <stdint.h>
+
+#ifdef __cplusplus
+extern "C" {
+#endif
+
+/* The numbers of refusals, as kahopiru_answer has them. */
+enum {
+    KAHOPIRU_ACCEPTED = 0,
+    KAHOPIRU_GRID_SIDE = 1,
+    KAHOPIRU_TILE_COUNT = 2,
+    KAHOPIRU_SAMPLE_LENGTHS = 3,
+    KAHOPIRU_ITEM_IDS = 4,
+    KAHOPIRU_FILE_LENGTH = 5,
+    KAHOPIRU_OUTPUT_LENGTH = 6,
+    KAHOPIRU_CODE = 13
+};
+
+/* Depths, for bit_depth. */
+enum { KAHOPIRU_EIGHT = 0, KAHOPIRU_TEN = 1, KAHOPIRU_TWELVE = 2 };
+
+/* Orientations, in Exif's order: Exif's number less 1. */
+enum {
+    KAHOPIRU_NORMAL = 0,
+    KAHOPIRU_FLIP_H = 1,
+    KAHOPIRU_ROTATE_180 = 2,
+    KAHOPIRU_FLIP_V = 3,
+    KAHOPIRU_TRANSPOSE = 4,
+    KAHOPIRU_ROTATE_90 = 5,
+    KAHOPIRU_TRANSVERSE = 6,
+    KAHOPIRU_ROTATE_270 = 7
+};
+
+/* Colour by the code points of ISO/IEC 23091-2. */
+typedef struct {
+    uint16_t primaries; /* 0 to 2, 4 to 12, or 22 */
+    uint16_t transfer;  /* 0 to 2, or 4 to 18 */
+    uint16_t matrix;    /* 0 to 17 */
+    uint8_t full_range; /* 0 or 1 */
+} kahopiru_cicp;
+
+/* How a picture states its colour: by code points, by an ICC profile, by both or by neither. */
+typedef struct {
+    uint8_t has_cicp; /* 0 or 1 */
+    uint8_t has_icc;  /* 0 or 1; the profile is lent beside the panel */
+    kahopiru_cicp cicp; /* not looked at if has_cicp is 0 */
+} kahopiru_color;
+
+/* The numbers of a gain map. */
+typedef struct {
+    uint32_t width, height; /* of the gain image, in pixels; any numbers */
+    uint8_t bit_depth;      /* of the gain image: 0, 1, 2 for 8, 10, 12 bits */
+    uint8_t has_tmap;       /* 0 or 1; the tone map's bytes are lent beside the panel */
+    uint8_t has_alternate;  /* 0 or 1 */
+    kahopiru_cicp cicp;     /* of the gain image */
+    kahopiru_color alternate; /* colour of the tone map's picture; not looked at if has_alternate is 0. One that states
+                                 neither code points nor a profile, or has no tone map, is the same as none */
+} kahopiru_gain;
+
+/* The numbers of a panel. Padding between fields is ignored. */
+typedef struct {
+    uint32_t cols, rows;     /* tiles across and down: 1 to 256 each */
+    uint32_t tile_w, tile_h; /* size of a tile, in pixels; any numbers, 0 too */
+    uint32_t full_w, full_h; /* size of the whole picture; any numbers, 0 too */
+    uint8_t bit_depth;       /* of colour and alpha: 0, 1, 2 for 8, 10, 12 bits */
+    uint8_t orientation;     /* 0 to 7 */
+    uint8_t has_light;       /* 0 or 1: the light levels below are part of the panel */
+    uint8_t has_exif;        /* 0 or 1; the Exif bytes are lent beside the panel */
+    uint8_t has_gain;        /* 0 or 1 */
+    uint16_t max_content_light_level;     /* in candela per square metre */
+    uint16_t max_pic_average_light_level; /* in candela per square metre */
+    kahopiru_color color;
+    kahopiru_gain gain;      /* not looked at if has_gain is 0 */
+} kahopiru_panel;
+
+/* What a call answers. */
+typedef struct {
+    uint32_t refusal; /* 0: accepted; else the number of the refusal */
+    uint64_t length;  /* of the file, in bytes; 0 if refused */
+} kahopiru_answer;
+
+/* The length of the panel's file, or why the panel is refused. Reads the lists of lengths and the records' second
+   bytes, and no sample. */
+kahopiru_answer kahopiru_file_length(
+    kahopiru_panel panel,
+    const uint8_t *color_hvcc, size_t color_hvcc_len,
+    const uint8_t *alpha_hvcc, size_t alpha_hvcc_len,
+    const uint32_t *color_lengths, size_t color_lengths_len,
+    const uint32_t *alpha_lengths, size_t alpha_lengths_len,
+    const uint8_t *color_samples, size_t color_samples_len,
+    const uint8_t *alpha_samples, size_t alpha_samples_len,
+    const uint8_t *icc, size_t icc_len,
+    const uint8_t *exif, size_t exif_len,
+    const uint8_t *gain_hvcc, size_t gain_hvcc_len,
+    const uint8_t *gain_sample, size_t gain_sample_len,
+    const uint8_t *gain_xmp, size_t gain_xmp_len,
+    const uint8_t *gain_tmap, size_t gain_tmap_len,
+    const uint8_t *alternate_icc, size_t alternate_icc_len);
+
+/* Writes the panel's file to the front of out and answers its length; the bytes of out behind the file keep what they
+   had. If it refuses, all of out does. out must be out_len writable bytes that overlap none of the lent parts. */
+kahopiru_answer kahopiru_write(
+    kahopiru_panel panel,
+    const uint8_t *color_hvcc, size_t color_hvcc_len,
+    const uint8_t *alpha_hvcc, size_t alpha_hvcc_len,
+    const uint32_t *color_lengths, size_t color_lengths_len,
+    const uint32_t *alpha_lengths, size_t alpha_lengths_len,
+    const uint8_t *color_samples, size_t color_samples_len,
+    const uint8_t *alpha_samples, size_t alpha_samples_len,
+    const uint8_t *icc, size_t icc_len,
+    const uint8_t *exif, size_t exif_len,
+    const uint8_t *gain_hvcc, size_t gain_hvcc_len,
+    const uint8_t *gain_sample, size_t gain_sample_len,
+    const uint8_t *gain_xmp, size_t gain_xmp_len,
+    const uint8_t *gain_tmap, size_t gain_tmap_len,
+    const uint8_t *alternate_icc, size_t alternate_icc_len,
+    uint8_t *out, size_t out_len);
+
+#ifdef __cplusplus
+}
+#endif
+
+#endif

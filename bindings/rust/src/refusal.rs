@@ -1,0 +1,77 @@
+//! Why a panel is refused.
+
+use crate::sys;
+use std::fmt;
+
+/// Why a call refuses, in the order in which the checks are made: the first that holds is answered.
+#[derive(Clone, Copy, Debug, PartialEq, Eq, PartialOrd, Ord, Hash)]
+#[non_exhaustive]
+pub enum Refusal {
+    /// 1: there are 0 rows or columns, or more than 256.
+    GridSide,
+    /// 2: a list of sample lengths has not exactly an entry for each tile.
+    TileCount,
+    /// 3: the sample lengths of colour or alpha do not sum to the bytes lent.
+    SampleLengths,
+    /// 4: the last item id would be above 65,535.
+    ItemIds,
+    /// 5: the file would be longer than 4,294,967,295 bytes.
+    FileLength,
+    /// 6: the output is shorter than the file.
+    OutputLength,
+}
+
+impl Refusal {
+    /// Every refusal, in the order of the checks.
+    pub const ALL: [Refusal; 6] = [
+        Refusal::GridSide,
+        Refusal::TileCount,
+        Refusal::SampleLengths,
+        Refusal::ItemIds,
+        Refusal::FileLength,
+        Refusal::OutputLength,
+    ];
+
+    /// The refusal's number, as the archive, the C header and the sheet program have it.
+    pub const fn number(self) -> u32 {
+        match self {
+            Refusal::GridSide => 1,
+            Refusal::TileCount => 2,
+            Refusal::SampleLengths => 3,
+            Refusal::ItemIds => 4,
+            Refusal::FileLength => 5,
+            Refusal::OutputLength => 6,
+        }
+    }
+}
+
+impl fmt::Display for Refusal {
+    fn fmt(&self, f: &mut fmt::Formatter<'_>) -> fmt::Result {
+        f.write_str(match self {
+            Refusal::GridSide => "the grid has 0 rows or columns, or more than 256",
+            Refusal::TileCount => "a list of sample lengths does not have exactly one entry for each tile",
+            Refusal::SampleLengths => "the sample lengths do not sum to the number of sample bytes",
+            Refusal::ItemIds => "the panel has so many tiles that its last item id would be above 65,535",
+            Refusal::FileLength => "the file would be longer than 4,294,967,295 bytes",
+            Refusal::OutputLength => "the output is shorter than the file",
+        })
+    }
+}
+
+impl std::error::Error for Refusal {}
+
+/// An answer of the archive as a result.
+///
+/// # Panics
+///
+/// If the archive refuses with a number that it cannot answer to a panel of this crate: then the archive linked is not
+/// the one that this crate is made for.
+pub(crate) fn result(answer: sys::Answer) -> Result<u64, Refusal> {
+    if answer.refusal == 0 {
+        return Ok(answer.length);
+    }
+    match Refusal::ALL.into_iter().find(|r| r.number() == answer.refusal) {
+        Some(refusal) => Err(refusal),
+        None => panic!("libkahopiru.a refused with {}, which this crate does not know", answer.refusal),
+    }
+}

@@ -1,0 +1,48 @@
+//! The comparison itself, put to the test: each kind of difference, made on purpose, must be reported.
+
+use crate::compare::{judge, same_answer, same_file, Room};
+use crate::panels::full;
+
+/// A difference that is made on purpose, and whether the comparison reported it.
+type Trial = (&'static str, Result<(), String>);
+
+/// Answers the differences that went unnoticed, and how many were made.
+pub fn run() -> (Vec<&'static str>, usize) {
+    let case = full();
+    let file = kahopiru::to_vec(&case.panel()).expect("the full panel is accepted");
+    let good = Ok(file.len() as u64);
+    let room_with = |change: &dyn Fn(&mut [u8])| {
+        let mut room = Room::new();
+        kahopiru::write(&case.panel(), room.lend(file.len() + 9)).expect("the full panel is accepted");
+        change(room.tamper());
+        room
+    };
+    let (first, end) = (Room::begins(), Room::begins() + file.len());
+    let untouched = room_with(&|_| ());
+    let unwritten = {
+        let mut room = Room::new();
+        room.lend(file.len() + 9);
+        room
+    };
+    let trials: Vec<Trial> = vec![
+        ("a flipped byte", judge(good, &file, good, &room_with(&|m| m[end - 1] ^= 1))),
+        ("a flipped first byte", judge(good, &file, good, &room_with(&|m| m[first] ^= 0x80))),
+        ("a wrong length", judge(good, &file, good.map(|n| n + 1), &untouched)),
+        ("a wrong refusal", judge(Err(3), &[], Err(2), &unwritten)),
+        ("a refusal for a file", judge(good, &file, Err(4), &untouched)),
+        ("a touched guard byte behind", judge(good, &file, good, &room_with(&|m| m[end] ^= 1))),
+        ("a touched guard byte before", judge(good, &file, good, &room_with(&|m| m[first - 1] ^= 1))),
+        ("a touched last guard byte", judge(good, &file, good, &room_with(&|m| *m.last_mut().unwrap() ^= 1))),
+        ("a refusal that wrote", judge(Err(6), &file, Err(6), &untouched)),
+        ("nothing written", judge(good, &file, good, &unwritten)),
+        ("a wrong length alone", same_answer(Ok(556), Ok(557))),
+        ("a shorter file", same_file(&file, &file[1..])),
+    ];
+    let made = trials.len();
+    let mut unnoticed: Vec<_> = trials.into_iter().filter(|(_, seen)| seen.is_ok()).map(|(name, _)| name).collect();
+    // And what is right must pass, or the comparison reports everything.
+    if judge(good, &file, good, &untouched).is_err() || judge(Err(6), &file, Err(6), &unwritten).is_err() {
+        unnoticed.push("nothing (a right answer is reported)");
+    }
+    (unnoticed, made)
+}
