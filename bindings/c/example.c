@@ -10,6 +10,7 @@
 /* What other languages, which declare these structs again, count on. */
 _Static_assert(sizeof(kahopiru_cicp) == 8 && sizeof(kahopiru_color) == 10 && sizeof(kahopiru_gain) == 32, "sizes");
 _Static_assert(sizeof(kahopiru_panel) == 76 && sizeof(kahopiru_answer) == 16, "sizes");
+_Static_assert(sizeof(kahopiru_tile_place) == 24, "sizes");
 
 /* The panel's numbers. What is not named is 0: 8 bits, no rotation, every option absent. */
 static const kahopiru_panel panel = {.cols = 1, .rows = 1, .tile_w = 64, .tile_h = 64, .full_w = 64, .full_h = 64};
@@ -64,6 +65,12 @@ int main(void) {
     expect(memcmp(out + 550, "mdat", 4) == 0, "mdat begins at 546");
     expect(out[554] == 0xAA && out[555] == 0xBB, "the colour sample is at 554, the alpha sample at 555");
     expect(untouched(out + 556, sizeof out - 556, mark), "the room behind the file is as it was");
+
+    kahopiru_tile_place tile = kahopiru_tile(3, color_lengths, 1, alpha_lengths, 1, color_samples, 1, alpha_samples, 1);
+    expect(tile.refusal == KAHOPIRU_ACCEPTED && tile.alpha == 1 && tile.start == 0 && tile.length == 1,
+           "item 3 is the alpha tile");
+    tile = kahopiru_tile(2, color_lengths, 1, alpha_lengths, 1, color_samples, 1, alpha_samples, 1);
+    expect(tile.refusal == KAHOPIRU_NO_TILE && tile.length == 0, "item 2, the colour grid, is no tile");
 
     kahopiru_panel none = panel;
     none.cols = 0;

@@ -2,8 +2,9 @@
  * Kahopiru: a HEIF file writer whose every byte is proved.
  *
  * The file holds a colour picture in tiles, an alpha picture in tiles and, where there is one, a gain map with a
- * tone map. Two calls: kahopiru_file_length answers how long the file will be, kahopiru_write writes it into room
- * that the caller lends. Both answer the same of the same panel; only kahopiru_write can find the room too short.
+ * tone map. kahopiru_file_length answers how long the file will be, kahopiru_write writes it into room that the caller
+ * lends. Both answer the same of the same panel; only kahopiru_write can find the room too short. kahopiru_tile answers
+ * where among the lent samples the tile of an item id lies.
  *
  * The archive libkahopiru.a is for x86-64 with the System V calling convention (Linux, the BSDs). It allocates
  * nothing, keeps nothing between calls and calls nobody; any number of threads may call it at once.
@@ -41,6 +42,7 @@
  *       tone map
  *   5   the file would be longer than 4,294,967,295 bytes
  *   6   the output is shorter than the file (kahopiru_write only)
+ *   7   the id names no tile (kahopiru_tile only)
  *  13   a code names nothing: a depth, an orientation, a colour code, or a field of 0 or 1 that is neither. Codes
  *       beside an absent part are not looked at
  */
@@ -63,6 +65,7 @@ enum {
     KAHOPIRU_ITEM_IDS = 4,
     KAHOPIRU_FILE_LENGTH = 5,
     KAHOPIRU_OUTPUT_LENGTH = 6,
+    KAHOPIRU_NO_TILE = 7,
     KAHOPIRU_CODE = 13
 };
 
@@ -165,6 +168,24 @@ kahopiru_answer kahopiru_write(
     const uint8_t *gain_tmap, size_t gain_tmap_len,
     const uint8_t *alternate_icc, size_t alternate_icc_len,
     uint8_t *out, size_t out_len);
+
+/* Where a tile's payload lies. */
+typedef struct {
+    uint32_t refusal; /* 0: accepted; else the number of the refusal, and all else is 0 */
+    uint32_t alpha;   /* 1: in alpha_samples; 0: in color_samples */
+    uint64_t start;   /* of its first byte there */
+    uint64_t length;  /* in bytes; may be 0 */
+} kahopiru_tile_place;
+
+/* Where the payload of the tile with this item id lies. With n tiles in each picture, the colour tiles have the ids 1 to
+   n and the alpha tiles n + 2 to 2n + 1. Refused, in this order, with 2 if the two lists differ in count or are empty,
+   3 if either list does not sum to its bytes, 4 if 2n + 2 is above 65,535, 7 if the id names no tile. */
+kahopiru_tile_place kahopiru_tile(
+    uint16_t id,
+    const uint32_t *color_lengths, size_t color_lengths_len,
+    const uint32_t *alpha_lengths, size_t alpha_lengths_len,
+    const uint8_t *color_samples, size_t color_samples_len,
+    const uint8_t *alpha_samples, size_t alpha_samples_len);
 
 #ifdef __cplusplus
 }

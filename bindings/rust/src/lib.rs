@@ -3,7 +3,8 @@
 //! A [`Panel`] is a colour picture in tiles, an alpha picture in tiles and, where there is one, a gain map with a tone
 //! map; all of them are already coded as HEVC. [`write`](fn@write) makes one HEIF file of it in room that the caller lends,
 //! [`to_vec`] in a vector, and [`file_length`] says beforehand how long the file will be. A panel that cannot be
-//! written is refused, with a [`Refusal`] that says why; a call that refuses leaves the output as it was.
+//! written is refused, with a [`Refusal`] that says why; a call that refuses leaves the output as it was. [`tile`] gives
+//! the payload of a tile by its item id.
 //!
 //! The code behind these calls is an archive, `libkahopiru.a`, in which every function is proved: the bytes written are
 //! those of a definition of the file, for every panel, and nothing else is touched. This crate only hands the parts
@@ -70,7 +71,8 @@ pub use refusal::Refusal;
 /// Reads the lists of lengths, and of the byte parts little more than their lengths.
 pub fn file_length(panel: &Panel<'_>) -> Result<u64, Refusal> {
     let (numbers, lent) = hand_over::of(panel);
-    refusal::result(sys::file_length(numbers, &lent))
+    let answer = sys::file_length(numbers, &lent);
+    refusal::result(answer.refusal, answer.length)
 }
 
 /// Writes the panel's file to the front of `out` and answers its length.
@@ -79,8 +81,9 @@ pub fn file_length(panel: &Panel<'_>) -> Result<u64, Refusal> {
 /// [`Refusal::OutputLength`] says that `out` is shorter than the file.
 pub fn write(panel: &Panel<'_>, out: &mut [u8]) -> Result<usize, Refusal> {
     let (numbers, lent) = hand_over::of(panel);
+    let answer = sys::write(numbers, &lent, out);
     // The file lies in `out`, so that its length is a usize.
-    refusal::result(sys::write(numbers, &lent, out)).map(|length| length as usize)
+    refusal::result(answer.refusal, answer.length as usize)
 }
 
 /// The panel's file in a vector of just its length.
@@ -93,4 +96,28 @@ pub fn to_vec(panel: &Panel<'_>) -> Result<Vec<u8>, Refusal> {
     let written = write(panel, &mut file)?;
     debug_assert_eq!(written as u64, length);
     Ok(file)
+}
+
+/// The payload of the tile with this item id: that very part of the colour bytes or of the alpha bytes.
+///
+/// With n tiles in each picture, the colour tiles have the ids 1 to n and the alpha tiles n + 2 to 2n + 1. Refused with
+/// [`Refusal::TileCount`] if the two lists differ in count or are empty, [`Refusal::SampleLengths`] if a list does not
+/// sum to its bytes, [`Refusal::ItemIds`] if 2n + 2 is above 65,535, and [`Refusal::NoTile`] if the id names no tile; in
+/// that order.
+///
+/// ```
+/// use kahopiru::{tile, Refusal, Samples};
+///
+/// let color = Samples { lengths: &[3, 2], bytes: b"onetw" };
+/// let alpha = Samples { lengths: &[1, 1], bytes: b"ab" };
+/// assert_eq!(tile(2, color, alpha), Ok(&b"tw"[..])); // the second colour tile
+/// assert_eq!(tile(3, color, alpha), Err(Refusal::NoTile)); // the colour grid
+/// assert_eq!(tile(4, color, alpha), Ok(&b"a"[..])); // the first alpha tile
+/// ```
+pub fn tile<'a>(id: u16, color: Samples<'a>, alpha: Samples<'a>) -> Result<&'a [u8], Refusal> {
+    let place = sys::tile(id, color.lengths, alpha.lengths, color.bytes, alpha.bytes);
+    let bytes = if place.alpha == 1 { alpha.bytes } else { color.bytes };
+    // The place lies within the bytes, so that its numbers are each a usize.
+    let (start, length) = (place.start as usize, place.length as usize);
+    refusal::result(place.refusal, &bytes[start..start + length])
 }

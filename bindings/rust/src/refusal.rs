@@ -1,6 +1,5 @@
 //! Why a panel is refused.
 
-use crate::sys;
 use std::fmt;
 
 /// Why a call refuses, in the order in which the checks are made: the first that holds is answered.
@@ -19,17 +18,20 @@ pub enum Refusal {
     FileLength,
     /// 6: the output is shorter than the file.
     OutputLength,
+    /// 7: of a tile lookup, the item id names no tile.
+    NoTile,
 }
 
 impl Refusal {
     /// Every refusal, in the order of the checks.
-    pub const ALL: [Refusal; 6] = [
+    pub const ALL: [Refusal; 7] = [
         Refusal::GridSide,
         Refusal::TileCount,
         Refusal::SampleLengths,
         Refusal::ItemIds,
         Refusal::FileLength,
         Refusal::OutputLength,
+        Refusal::NoTile,
     ];
 
     /// The refusal's number, as the archive, the C header and the sheet program have it.
@@ -41,6 +43,7 @@ impl Refusal {
             Refusal::ItemIds => 4,
             Refusal::FileLength => 5,
             Refusal::OutputLength => 6,
+            Refusal::NoTile => 7,
         }
     }
 }
@@ -54,24 +57,25 @@ impl fmt::Display for Refusal {
             Refusal::ItemIds => "the panel has so many tiles that its last item id would be above 65,535",
             Refusal::FileLength => "the file would be longer than 4,294,967,295 bytes",
             Refusal::OutputLength => "the output is shorter than the file",
+            Refusal::NoTile => "the item id names no tile",
         })
     }
 }
 
 impl std::error::Error for Refusal {}
 
-/// An answer of the archive as a result.
+/// An answer of the archive as a result: the number of its refusal, and what it says where that is 0.
 ///
 /// # Panics
 ///
 /// If the archive refuses with a number that it cannot answer to a panel of this crate: then the archive linked is not
 /// the one that this crate is made for.
-pub(crate) fn result(answer: sys::Answer) -> Result<u64, Refusal> {
-    if answer.refusal == 0 {
-        return Ok(answer.length);
+pub(crate) fn result<T>(refusal: u32, accepted: T) -> Result<T, Refusal> {
+    if refusal == 0 {
+        return Ok(accepted);
     }
-    match Refusal::ALL.into_iter().find(|r| r.number() == answer.refusal) {
-        Some(refusal) => Err(refusal),
-        None => panic!("libkahopiru.a refused with {}, which this crate does not know", answer.refusal),
+    match Refusal::ALL.into_iter().find(|r| r.number() == refusal) {
+        Some(known) => Err(known),
+        None => panic!("libkahopiru.a refused with {refusal}, which this crate does not know"),
     }
 }

@@ -58,9 +58,18 @@ pub struct Answer {
     pub length: u64,
 }
 
+#[repr(C)]
+#[derive(Clone, Copy, Debug, PartialEq, Eq, Default)]
+pub struct TilePlace {
+    pub refusal: u32,
+    pub alpha: u32,
+    pub start: u64,
+    pub length: u64,
+}
+
 // The sizes that bindings/c/example.c asserts of the header's structs.
 const _: () = assert!(size_of::<Cicp>() == 8 && size_of::<Color>() == 10 && size_of::<Gain>() == 32);
-const _: () = assert!(size_of::<Panel>() == 76 && size_of::<Answer>() == 16);
+const _: () = assert!(size_of::<Panel>() == 76 && size_of::<Answer>() == 16 && size_of::<TilePlace>() == 24);
 
 /// The byte parts, each lent whether or not it belongs to the panel.
 #[derive(Clone, Copy, Debug, PartialEq, Eq, Default)]
@@ -142,6 +151,18 @@ unsafe extern "C" {
         out: *mut u8,
         out_len: usize,
     ) -> Answer;
+
+    pub fn kahopiru_tile(
+        id: u16,
+        color_lengths: *const u32,
+        color_lengths_len: usize,
+        alpha_lengths: *const u32,
+        alpha_lengths_len: usize,
+        color_samples: *const u8,
+        color_samples_len: usize,
+        alpha_samples: *const u8,
+        alpha_samples_len: usize,
+    ) -> TilePlace;
 }
 
 /// The length call, with any numbers and any bytes.
@@ -216,6 +237,30 @@ pub fn write(panel: Panel, lent: &Lent<'_>, out: &mut [u8]) -> Answer {
             lent.alternate_icc.len(),
             out.as_mut_ptr(),
             out.len(),
+        )
+    }
+}
+
+/// The tile lookup, with any id, any lists and any bytes.
+pub fn tile(
+    id: u16,
+    color_lengths: &[u32],
+    alpha_lengths: &[u32],
+    color_samples: &[u8],
+    alpha_samples: &[u8],
+) -> TilePlace {
+    // SAFETY: as for `file_length`.
+    unsafe {
+        kahopiru_tile(
+            id,
+            color_lengths.as_ptr(),
+            color_lengths.len(),
+            alpha_lengths.as_ptr(),
+            alpha_lengths.len(),
+            color_samples.as_ptr(),
+            color_samples.len(),
+            alpha_samples.as_ptr(),
+            alpha_samples.len(),
         )
     }
 }

@@ -16,6 +16,7 @@ mod run;
 mod selftest;
 mod sets;
 mod sheet;
+mod tiles;
 mod trials;
 mod upstream;
 mod vectors;
@@ -103,6 +104,8 @@ fn everything(options: &Options) -> Run {
     println!("codes: {codes} values, of which {unnamed} name nothing and are refused with 13");
     let fenced = fence::run(&mut run, options.seed);
     println!("fenced: {fenced} panels, every part hard by memory that cannot be touched, before it and behind it");
+    let lookups = tiles::run(&mut run, options.seed);
+    println!("tile lookups: {lookups}");
     set("random panels", &mut run, |run| random(run, options.seed, options.panels));
     if options.huge {
         set("huge", &mut run, huge::write);
