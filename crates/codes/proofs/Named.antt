@@ -40,7 +40,7 @@ depth-found Twelve = refl
 pub depth-names : (n : ℕ) (o : Option BitDepth) → Names depth-code n o → o ≡ depth-named n
 depth-names = names-named depth-code every-depth depth-found
 
-pub depth-absent : (n : ℕ) → Misses (Unit {0}) n (0 ∷ 1 ∷ 2 ∷ []) → Names depth-code n none
+pub depth-absent : (n : ℕ) → Misses n (0 ∷ 1 ∷ 2 ∷ []) → Names depth-code n none
 unfolding every-depth
 depth-absent = absent depth-code every-depth depth-found
 
@@ -60,7 +60,7 @@ orientation-found Rotate270 = refl
 pub orientation-names : (n : ℕ) (o : Option Orientation) → Names orientation-code n o → o ≡ orientation-named n
 orientation-names = names-named orientation-code every-orientation orientation-found
 
-pub orientation-absent : (n : ℕ) → Misses (Unit {0}) n (0 ∷ 1 ∷ 2 ∷ 3 ∷ 4 ∷ 5 ∷ 6 ∷ 7 ∷ []) → Names orientation-code n none
+pub orientation-absent : (n : ℕ) → Misses n (0 ∷ 1 ∷ 2 ∷ 3 ∷ 4 ∷ 5 ∷ 6 ∷ 7 ∷ []) → Names orientation-code n none
 unfolding every-orientation
 orientation-absent = absent orientation-code every-orientation orientation-found
 
@@ -74,7 +74,7 @@ bool-found true = refl
 pub bool-names : (n : ℕ) (o : Option Bool) → Names bool-code n o → o ≡ yes-no n
 bool-names = names-named bool-code every-bool bool-found
 
-pub bool-absent : (n : ℕ) → Misses (Unit {0}) n (0 ∷ 1 ∷ []) → Names bool-code n none
+pub bool-absent : (n : ℕ) → Misses n (0 ∷ 1 ∷ []) → Names bool-code n none
 unfolding every-bool
 bool-absent = absent bool-code every-bool bool-found
 
@@ -88,6 +88,6 @@ part-found Present = refl
 pub part-names : (n : ℕ) (o : Option Part) → Names part-code n o → o ≡ part-named n
 part-names = names-named part-code every-part part-found
 
-pub part-absent : (n : ℕ) → Misses (Unit {0}) n (0 ∷ 1 ∷ []) → Names part-code n none
+pub part-absent : (n : ℕ) → Misses n (0 ∷ 1 ∷ []) → Names part-code n none
 unfolding every-part
 part-absent = absent part-code every-part part-found

@@ -2,7 +2,7 @@
 // lent beside them, each as a pointer and a length. A code that stands for nothing is refused with 13, before all checks.
 ghost use mathlib.Core.Path.{_≡_};
 ghost use lib.ListN.{length};
-ghost use Rattle.panel.specs.Answer.{number, says};
+ghost use Rattle.panel.specs.Answer.{refused, number, says};
 ghost use Rattle.layout.specs.Lent.{lent};
 ghost use Rattle.kahopiru.specs.Calls.{told, said-length, said, after-call};
 use crate::numbers::MaybePanel;
@@ -100,6 +100,16 @@ fn tell(a: Answer) -> Told
     }
 }
 
+// The refusal of a code that stands for nothing.
+fn unknown_code() -> Told
+    ensures { λ r. ⌜ r ≡ told (refused 13) ⌝ }
+{
+    Told {
+        refusal: 13,
+        length: 0,
+    }
+}
+
 // The length of a panel's file, or the number of its refusal.
 // Above 40 lines by its parameters, one to a line: each byte part is a slice of its own.
 #[no_mangle]
@@ -122,10 +132,7 @@ pub extern "C" fn kahopiru_file_length(
     ensures { λ r. ⌜ r ≡ told (said-length panel (lent (now («color_hvcc» .entry)) (now («alpha_hvcc» .entry)) (now («color_lengths» .entry)) (now («alpha_lengths» .entry)) (now («color_samples» .entry)) (now («alpha_samples» .entry)) (now (icc .entry)) (now (exif .entry)) (now («gain_hvcc» .entry)) (now («gain_sample» .entry)) (now («gain_xmp» .entry)) (now («gain_tmap» .entry)) (now («alternate_icc» .entry)))) ⌝ }
 {
     match numbers_of(panel) {
-        MaybePanel::None => Told {
-            refusal: 13,
-            length: 0,
-        },
+        MaybePanel::None => unknown_code(),
         MaybePanel::Some(numbers) => {
             let answer = file_length(
                 numbers,
@@ -172,10 +179,7 @@ pub extern "C" fn kahopiru_write(
     ensures { λ _. ⌜ now (out .exit) ≡ after-call panel (lent (now («color_hvcc» .entry)) (now («alpha_hvcc» .entry)) (now («color_lengths» .entry)) (now («alpha_lengths» .entry)) (now («color_samples» .entry)) (now («alpha_samples» .entry)) (now (icc .entry)) (now (exif .entry)) (now («gain_hvcc» .entry)) (now («gain_sample» .entry)) (now («gain_xmp» .entry)) (now («gain_tmap» .entry)) (now («alternate_icc» .entry))) (now (out .entry)) ⌝ }
 {
     match numbers_of(panel) {
-        MaybePanel::None => Told {
-            refusal: 13,
-            length: 0,
-        },
+        MaybePanel::None => unknown_code(),
         MaybePanel::Some(numbers) => {
             let answer = wrap_hevc_grid_with_alpha(
                 numbers,

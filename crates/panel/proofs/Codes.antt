@@ -21,10 +21,13 @@ use Rattle.panel.specs.declared.color.TransferFunction.the-variants as T
 use Rattle.panel.specs.declared.color.MatrixCoefficients.{MatrixCoefficients}
 use Rattle.panel.specs.declared.color.MatrixCoefficients.the-variants as M
 
--- n is none of these, and B holds: in the order in which a match asks
-abbrev pub Misses : Type 0 → ℕ → List ℕ → Type 0
-Misses B n [] = B
-Misses B n (k ∷ l) = Misses (B × (n ≡ k → ⊥)) n l
+-- B holds, and n is none of these, in the order in which a match asks
+abbrev pub Misses-after : Type 0 → ℕ → List ℕ → Type 0
+Misses-after B n [] = B
+Misses-after B n (k ∷ l) = Misses-after (B × (n ≡ k → ⊥)) n l
+
+abbrev pub Misses : ℕ → List ℕ → Type 0
+Misses n l = Misses-after (Unit {0}) n l
 
 some-inj : {A : Type 0} {a b : A} → some a ≡ some b → a ≡ b
 some-inj e = cc
@@ -34,7 +37,7 @@ module _ {A : Type 0} (code : A → ℕ) where
   below k [] = true
   below k (a ∷ l) = ltb (code a) k && below k l
 
-  missed : {B : Type 0} (n : ℕ) (l : List A) → Misses B n (map code l) → B × (named code l n ≡ none)
+  missed : {B : Type 0} (n : ℕ) (l : List A) → Misses-after B n (map code l) → B × (named code l n ≡ none)
   missed n [] m = (m, refl)
   missed n (a ∷ l) m = let r = missed n l m in (r .0 .0, go (eqb n (code a)) refl (r .0 .1) (r .1))
     where
@@ -68,7 +71,7 @@ module _ {A : Type 0} (code : A → ℕ) where
     bytes-inj k t x y e = code-inj x y (be-inj k (bounded (2 ^ (8 * k)) (code x) every x t (found x)) (bounded (2 ^ (8 * k)) (code y) every y t (found y)) e)
 
     -- a code that no value has, as a match finds it
-    pub absent : (n : ℕ) → Misses (Unit {0}) n (map code every) → Names code n none
+    pub absent : (n : ℕ) → Misses n (map code every) → Names code n none
     absent n m a e = let z : some a ≡ none = sym (found a) ∙ ap (λ (k : ℕ). named code every k) e ∙ missed {B = Unit {0}} n every m .1 in let w : _≡_ {A = ℕ} 0 1 = cc in omega arith
 
     -- the value that a code names, or none, is what the look-up gives
@@ -102,7 +105,7 @@ pub primaries-inj : (x y : Primaries) → be 2 (primaries-code x) ≡ be 2 (prim
 unfolding every-primaries
 primaries-inj = bytes-inj primaries-code every-primaries primaries-found 2 tt
 
-pub primaries-absent : (n : ℕ) → Misses (Unit {0}) n (0 ∷ 1 ∷ 2 ∷ 4 ∷ 5 ∷ 6 ∷ 7 ∷ 8 ∷ 9 ∷ 10 ∷ 11 ∷ 12 ∷ 22 ∷ []) → (a : Primaries) → primaries-code a ≡ n → ⊥
+pub primaries-absent : (n : ℕ) → Misses n (0 ∷ 1 ∷ 2 ∷ 4 ∷ 5 ∷ 6 ∷ 7 ∷ 8 ∷ 9 ∷ 10 ∷ 11 ∷ 12 ∷ 22 ∷ []) → (a : Primaries) → primaries-code a ≡ n → ⊥
 unfolding every-primaries
 primaries-absent = absent primaries-code every-primaries primaries-found
 
@@ -133,7 +136,7 @@ pub transfer-inj : (x y : TransferFunction) → be 2 (transfer-code x) ≡ be 2 
 unfolding every-transfer
 transfer-inj = bytes-inj transfer-code every-transfer transfer-found 2 tt
 
-pub transfer-absent : (n : ℕ) → Misses (Unit {0}) n (0 ∷ 1 ∷ 2 ∷ 4 ∷ 5 ∷ 6 ∷ 7 ∷ 8 ∷ 9 ∷ 10 ∷ 11 ∷ 12 ∷ 13 ∷ 14 ∷ 15 ∷ 16 ∷ 17 ∷ 18 ∷ []) → (a : TransferFunction) → transfer-code a ≡ n → ⊥
+pub transfer-absent : (n : ℕ) → Misses n (0 ∷ 1 ∷ 2 ∷ 4 ∷ 5 ∷ 6 ∷ 7 ∷ 8 ∷ 9 ∷ 10 ∷ 11 ∷ 12 ∷ 13 ∷ 14 ∷ 15 ∷ 16 ∷ 17 ∷ 18 ∷ []) → (a : TransferFunction) → transfer-code a ≡ n → ⊥
 unfolding every-transfer
 transfer-absent = absent transfer-code every-transfer transfer-found
 
@@ -164,7 +167,7 @@ pub matrix-inj : (x y : MatrixCoefficients) → be 2 (matrix-code x) ≡ be 2 (m
 unfolding every-matrix
 matrix-inj = bytes-inj matrix-code every-matrix matrix-found 2 tt
 
-pub matrix-absent : (n : ℕ) → Misses (Unit {0}) n (0 ∷ 1 ∷ 2 ∷ 3 ∷ 4 ∷ 5 ∷ 6 ∷ 7 ∷ 8 ∷ 9 ∷ 10 ∷ 11 ∷ 12 ∷ 13 ∷ 14 ∷ 15 ∷ 16 ∷ 17 ∷ []) → (a : MatrixCoefficients) → matrix-code a ≡ n → ⊥
+pub matrix-absent : (n : ℕ) → Misses n (0 ∷ 1 ∷ 2 ∷ 3 ∷ 4 ∷ 5 ∷ 6 ∷ 7 ∷ 8 ∷ 9 ∷ 10 ∷ 11 ∷ 12 ∷ 13 ∷ 14 ∷ 15 ∷ 16 ∷ 17 ∷ []) → (a : MatrixCoefficients) → matrix-code a ≡ n → ⊥
 unfolding every-matrix
 matrix-absent = absent matrix-code every-matrix matrix-found
 

@@ -9,8 +9,9 @@ use Rattle.kahopiru.proofs.kahopiru_file_length.Tie as tie
 
 returns : tie.Need-returns
 returns c =
-    let n = c .before .before in
-    length-lacking _ _ (so maybe-panel (n .numbers-of .ensures) (c .enum-told .given .1))
+    let t = c .before in
+    let n = t .before .before in
+    c .unknown-code .ensures ∙ length-lacking _ _ (so maybe-panel (n .numbers-of .ensures) (t .enum-told .given .1))
 
 returns-2 : tie.Need-returns-2
 returns-2 c =
@@ -20,4 +21,4 @@ returns-2 c =
     c .tell .ensures ∙ length-told _ _ (so maybe-panel (n .numbers-of .ensures) (v .numbers .given .1)) ((f .file-length .ensures) .0)
 
 pub kahopiru-file-length-spec : {M : Type 1} → statement M
-kahopiru-file-length-spec = tie.close (tie.spec (λ c κs. search needs) (λ c. search needs) (λ c. search needs) (λ c κs. search needs) (λ c κs. search needs) returns returns-2)
+kahopiru-file-length-spec = tie.close (tie.spec (λ c κs. search needs) (λ c. search needs) (λ c κs. search needs) (λ c. search needs) (λ c κs. search needs) (λ c κs. search needs) returns returns-2)

@@ -9,9 +9,10 @@ use Rattle.kahopiru.proofs.kahopiru_write.Tie as tie
 
 returns : tie.Need-returns
 returns c =
-    let n = c .before .before in
-    let e = so maybe-panel (n .numbers-of .ensures) (c .enum-told .given .1) in
-    (write-lacking _ _ e _, kept-lacking _ _ e _)
+    let t = c .before in
+    let n = t .before .before in
+    let e = so maybe-panel (n .numbers-of .ensures) (t .enum-told .given .1) in
+    (c .unknown-code .ensures ∙ write-lacking _ _ e _, kept-lacking _ _ e _)
 
 returns-2 : tie.Need-returns-2
 returns-2 c =
@@ -23,4 +24,4 @@ returns-2 c =
     (c .tell .ensures ∙ write-told _ _ e h, write-left _ _ e h)
 
 pub kahopiru-write-spec : {M : Type 1} → statement M
-kahopiru-write-spec = tie.close (tie.spec (λ c κs. search needs) (λ c. search needs) (λ c. search needs) (λ c κs. search needs) (λ c κs. search needs) returns (λ c. search needs) returns-2)
+kahopiru-write-spec = tie.close (tie.spec (λ c κs. search needs) (λ c. search needs) (λ c κs. search needs) (λ c. search needs) (λ c κs. search needs) (λ c κs. search needs) returns (λ c. search needs) returns-2)
