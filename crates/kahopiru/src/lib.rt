@@ -1,5 +1,8 @@
 // The functions of the static library: the length of a panel's file, and the file. A panel comes as numbers and codes, its byte parts
 // lent beside them, each as a pointer and a length. A code that stands for nothing is refused with 13, before all checks.
+
+pub mod numbers;
+
 ghost use mathlib.Core.Path.{_≡_};
 ghost use lib.ListN.{length};
 ghost use Rattle.panel.specs.Answer.{refused, number, says};
@@ -11,8 +14,6 @@ use layout::file_length;
 use panel::Answer;
 use panel::Refusal;
 use wrap::wrap_hevc_grid_with_alpha;
-
-pub mod numbers;
 
 // A colour encoding: three code points of ISO/IEC 23091-2, and 1 for the full range, else 0.
 #[repr(C)]
