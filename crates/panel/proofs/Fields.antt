@@ -12,6 +12,7 @@ use Rattle.octets.proofs.Lists.{cancel}
 use Rattle.octets.proofs.Numbers.{cancel-be}
 use Rattle.octets.proofs.Boxes.{body-at}
 use Rattle.panel.specs.Types.{primaries-code, transfer-code, matrix-code, irot-steps, imir-axis}
+use Rattle.panel.specs.Codes.{named}
 use Rattle.panel.specs.Panel.{Colour}
 use Rattle.panel.specs.Agreement.{unspecified, stated, filled, shown}
 use Rattle.panel.specs.Widths.{Of, Light-fits}
@@ -20,7 +21,7 @@ use Rattle.panel.specs.declared.color.Cicp.{Cicp}
 use Rattle.panel.specs.declared.metadata.ContentLightLevel.{ContentLightLevel}
 use Rattle.panel.specs.declared.metadata.Orientation.{Orientation}
 use Rattle.panel.specs.declared.metadata.Orientation.the-variants.{Normal, FlipH, Rotate180, FlipV, Transpose, Rotate90, Transverse, Rotate270}
-use Rattle.panel.proofs.Codes.{find, code-inj, primaries-inj, transfer-inj, matrix-inj}
+use Rattle.panel.proofs.Codes.{code-inj, primaries-inj, transfer-inj, matrix-inj}
 
 -- ---- options of bytes
 
@@ -144,7 +145,7 @@ turn-code o = 4 * lead 0 (irot-payload (irot-steps o)) + lead 2 (imir-payload (i
 turn-table : List Orientation
 turn-table = Normal ∷ FlipH ∷ Rotate180 ∷ FlipV ∷ Transpose ∷ Rotate90 ∷ Transverse ∷ Rotate270 ∷ []
 
-turn-found : (o : Orientation) → find turn-code (turn-code o) turn-table ≡ some o
+turn-found : (o : Orientation) → named turn-code turn-table (turn-code o) ≡ some o
 unfolding turn-code turn-table lead
 turn-found Normal = refl
 turn-found FlipH = refl

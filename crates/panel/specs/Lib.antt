@@ -1,4 +1,5 @@
 pub mod Types
+pub mod Codes
 pub mod Panel
 pub mod Of
 pub mod Items

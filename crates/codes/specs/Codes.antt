@@ -1,0 +1,103 @@
+-- What a code stands for: a depth, an orientation, yes or no, whether a part is there, and a colour by its four codes.
+use mathlib.Core.Bool.{Bool, true, false}
+use mathlib.Core.Option.{Option, none, some, bind}
+use mathlib.Core.List.{List, [], _∷_}
+use Prim.Native.Nat.{ℕ}
+use Rattle.panel.specs.Types.{primaries-code, transfer-code, matrix-code}
+use Rattle.panel.specs.Codes.{named, every-primaries, every-transfer, every-matrix}
+use Rattle.panel.specs.declared.color.Cicp.{Cicp}
+use Rattle.panel.specs.declared.color.Part.{Part}
+use Rattle.panel.specs.declared.color.Part.the-variants.{Absent, Present}
+use Rattle.panel.specs.declared.fmt.BitDepth.{BitDepth}
+use Rattle.panel.specs.declared.fmt.BitDepth.the-variants.{Eight, Ten, Twelve}
+use Rattle.panel.specs.declared.metadata.Orientation.{Orientation}
+use Rattle.panel.specs.declared.metadata.Orientation.the-variants.{Normal, FlipH, Rotate180, FlipV, Transpose, Rotate90, Transverse, Rotate270}
+use Rattle.codes.specs.declared.MaybeDepth.{MaybeDepth}
+use Rattle.codes.specs.declared.MaybeDepth.the-variants as D
+use Rattle.codes.specs.declared.MaybeOrientation.{MaybeOrientation}
+use Rattle.codes.specs.declared.MaybeOrientation.the-variants as O
+use Rattle.codes.specs.declared.MaybeBool.{MaybeBool}
+use Rattle.codes.specs.declared.MaybeBool.the-variants as B
+use Rattle.codes.specs.declared.MaybePart.{MaybePart}
+use Rattle.codes.specs.declared.MaybePart.the-variants as P
+
+-- ---- depth
+
+abbrev pub depth-code : BitDepth → ℕ
+depth-code Eight = 0
+depth-code Ten = 1
+depth-code Twelve = 2
+
+unfoldable pub every-depth : List BitDepth
+every-depth = Eight ∷ Ten ∷ Twelve ∷ []
+
+abbrev pub depth-named : ℕ → Option BitDepth
+depth-named n = named depth-code every-depth n
+
+abbrev pub maybe-depth : MaybeDepth → Option BitDepth
+maybe-depth D.None = none
+maybe-depth (D.Some x) = some x
+
+-- ---- orientation
+
+abbrev pub orientation-code : Orientation → ℕ
+orientation-code Normal = 0
+orientation-code FlipH = 1
+orientation-code Rotate180 = 2
+orientation-code FlipV = 3
+orientation-code Transpose = 4
+orientation-code Rotate90 = 5
+orientation-code Transverse = 6
+orientation-code Rotate270 = 7
+
+unfoldable pub every-orientation : List Orientation
+every-orientation = Normal ∷ FlipH ∷ Rotate180 ∷ FlipV ∷ Transpose ∷ Rotate90 ∷ Transverse ∷ Rotate270 ∷ []
+
+abbrev pub orientation-named : ℕ → Option Orientation
+orientation-named n = named orientation-code every-orientation n
+
+abbrev pub maybe-orientation : MaybeOrientation → Option Orientation
+maybe-orientation O.None = none
+maybe-orientation (O.Some x) = some x
+
+-- ---- yes or no
+
+abbrev pub bool-code : Bool → ℕ
+bool-code false = 0
+bool-code true = 1
+
+unfoldable pub every-bool : List Bool
+every-bool = false ∷ true ∷ []
+
+abbrev pub yes-no : ℕ → Option Bool
+yes-no n = named bool-code every-bool n
+
+abbrev pub maybe-bool : MaybeBool → Option Bool
+maybe-bool B.None = none
+maybe-bool (B.Some x) = some x
+
+-- ---- whether a byte part is there
+
+abbrev pub part-code : Part → ℕ
+part-code Absent = 0
+part-code Present = 1
+
+unfoldable pub every-part : List Part
+every-part = Absent ∷ Present ∷ []
+
+abbrev pub part-named : ℕ → Option Part
+part-named n = named part-code every-part n
+
+abbrev pub maybe-part : MaybePart → Option Part
+maybe-part P.None = none
+maybe-part (P.Some x) = some x
+
+-- ---- colour: none where one of its codes stands for nothing
+
+unfoldable pub cicp-named : ℕ → ℕ → ℕ → ℕ → Option Cicp
+cicp-named primaries transfer matrix range =
+    bind (named primaries-code every-primaries primaries) (λ p.
+    bind (named transfer-code every-transfer transfer) (λ t.
+    bind (named matrix-code every-matrix matrix) (λ m.
+    bind (yes-no range) (λ full.
+    some (record { primaries = p; transfer = t; matrix = m; «full_range» = full })))))
