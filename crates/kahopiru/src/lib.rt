@@ -1,7 +1,8 @@
-// The functions of the static library: the length of a panel's file, and the file. A panel comes as numbers and codes, its byte parts
-// lent beside them, each as a pointer and a length. A code that stands for nothing is refused with 13, before all checks.
+// The functions of the static library: the length of a panel's file, the file, and where a tile lies (tile). A panel comes as numbers and
+// codes, its byte parts lent beside them, each as a pointer and a length. A code that stands for nothing is refused with 13, before all checks.
 
 pub mod numbers;
+pub mod tile;
 
 ghost use mathlib.Core.Path.{_≡_};
 ghost use lib.ListN.{length};

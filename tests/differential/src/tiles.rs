@@ -8,9 +8,9 @@ use crate::upstream;
 use kahopiru::{sys, tile, Refusal, Samples};
 
 /// How many random lists are drawn.
-const LISTS: u64 = 3_000;
+const LISTS: u64 = 1_000;
 /// How many of them are also looked up in upstream's file.
-const FILES: u64 = 300;
+const FILES: u64 = 200;
 /// The most tiles that have ids: 2n + 2 is at most 65,535.
 const MOST_TILES: usize = 32_766;
 

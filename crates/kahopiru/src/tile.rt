@@ -1,0 +1,50 @@
+// The tile lookup by numbers: since a reference can't be returned to C, where the tile's payload lies.
+ghost use mathlib.Core.Path.{_≡_};
+ghost use mathlib.Core.Bool.{cond};
+ghost use Rattle.tiles.specs.Lookup.{pictures, tile-span};
+ghost use Rattle.kahopiru.specs.Tile.{tile-told};
+use panel::ItemId;
+use tiles::tile_span;
+
+// Where a tile's payload lies: in the alpha samples where `alpha` is 1, else in the colour samples, from `start` on, `length` bytes.
+// Where `refusal` is not 0, all else is 0.
+#[repr(C)]
+pub struct TilePlace {
+    pub refusal: u32,
+    pub alpha: u32,
+    pub start: u64,
+    pub length: u64,
+}
+
+// Yes as 1, no as 0.
+fn yes(b: bool) -> u32
+    ensures { λ r. ⌜ r ≡ cond b 1 0 ⌝ }
+{
+    if b { 1 } else { 0 }
+}
+
+// The place of the tile that an item id names, or the number of the refusal: 2, 3, 4 or 7.
+#[no_mangle]
+pub extern "C" fn kahopiru_tile(
+    id: u16,
+    color_lengths: &[u32],
+    alpha_lengths: &[u32],
+    color_samples: &[u8],
+    alpha_samples: &[u8],
+) -> TilePlace
+    ensures { λ r. ⌜ r ≡ tile-told (tile-span id (pictures (now («color_lengths» .entry)) (now («alpha_lengths» .entry)) (now («color_samples» .entry)) (now («alpha_samples» .entry)))) ⌝ }
+{
+    let span = tile_span(
+        ItemId(id),
+        color_lengths,
+        alpha_lengths,
+        color_samples,
+        alpha_samples,
+    );
+    TilePlace {
+        refusal: span.refusal as u32,
+        alpha: yes(span.alpha),
+        start: span.start,
+        length: span.size as u64,
+    }
+}
