@@ -23,7 +23,7 @@ mistaken() {
 }
 
 compiles boxes || fail "the unedited copy of boxes does not compile"
-compiles gain_map || fail "the unedited copy of gain_map does not compile"
+compiles places || fail "the unedited copy of places does not compile"
 mistaken boxes ids.rt 'write_id(out, a, ItemId(id))' 'write_id(out, a, panel::PropertyPosition(1))' "expected \`ItemId\`, found \`PropertyPosition\`"
-mistaken gain_map positions.rt 'next: PropertyPosition(first.0 + count)' 'next: panel::ItemId(1)' "expected \`PropertyPosition\`, found \`ItemId\`"
+mistaken places positions.rt 'next: PropertyPosition(first.0 + count)' 'next: panel::ItemId(1)' "expected \`PropertyPosition\`, found \`ItemId\`"
 echo "types: a position is not taken for an id, nor an id for a position"

@@ -1,5 +1,5 @@
 pub mod Optional
 pub mod Loops
-pub mod Spans
 pub mod Marks
+pub mod Pictures
 pub mod Tests

@@ -1,5 +1,6 @@
 -- Positions printed one by one are the positions.
 use mathlib.Core.Path.{_≡_, refl, sym, ap, _∙_}
+use mathlib.Core.Bool.{Bool, true, false, cond}
 use mathlib.Core.List.{List, [], _∷_, map, flatMap}
 use Prim.Native.Nat.{ℕ, _+_}
 use native.Mathlib.Nat.{zero-add}
@@ -9,7 +10,7 @@ use Rattle.octets.proofs.Lists.{flatMap-one}
 use Rattle.panel.specs.Items.{ordinary}
 use Rattle.panel.specs.Ipma.{essential, _with_, association}
 use Rattle.panel.proofs.Ids.{length-ids-from}
-use Rattle.boxes.specs.Runs.{places}
+use Rattle.boxes.specs.Runs.{places, marked}
 use Rattle.boxes.specs.declared.association.Run.{Run}
 
 pub marked-print : (mark : ℕ) (l : List ℕ) → flatMap (λ k. (mark + k) ∷ []) l ≡ map (λ k. mark + k) l
@@ -18,9 +19,14 @@ marked-print mark [] = refl
 marked-print mark (k ∷ l) = ap (λ (r : List ℕ). (mark + k) ∷ r) (marked-print mark l)
 
 -- no mark
-pub unmarked : (l : List ℕ) → map (λ k. 0 + k) l ≡ l
+unmarked : (l : List ℕ) → map (λ k. 0 + k) l ≡ l
 unmarked [] = refl
 unmarked (k ∷ l) = λ i. zero-add k i ∷ unmarked l i
+
+-- the mark of an essential association, or none
+pub by-mark : (e : Bool) {m : ℕ} (l : List ℕ) → m ≡ cond e 128 0 → map (λ k. m + k) l ≡ marked e l
+by-mark true l h = ap (λ (m : ℕ). map (λ k. m + k) l) h
+by-mark false l h = ap (λ (m : ℕ). map (λ k. m + k) l) h ∙ unmarked l
 
 pub length-places : (r : Run) → length (places r) ≡ r .count
 length-places r = length-ids-from (r .first .0) (r .count)

@@ -1,15 +1,20 @@
 -- The property positions that a run of the code stands for.
 use mathlib.Core.Path.{_≡_}
-use mathlib.Core.Bool.{true}
+use mathlib.Core.Bool.{Bool, true, cond}
 use mathlib.Core.List.{List}
 use Prim.Native.Nat.{ℕ, _+_, _≤_}
 use Rattle.panel.specs.Items.{ids-from}
+use Rattle.panel.specs.Ipma.{essential}
 use Rattle.panel.specs.Refusal.{last-id}
 use Rattle.panel.specs.declared.Shape.{Shape}
 use Rattle.boxes.specs.declared.association.Run.{Run}
 
 abbrev pub places : Run → List ℕ
 places r = ids-from (r .first .0) (r .count)
+
+-- positions as ipma has them, essential or not
+abbrev pub marked : Bool → List ℕ → List ℕ
+marked e l = cond e (essential l) l
 
 -- at most two positions, each of which leaves the highest of 8 bits free, as does the one behind them
 pub record Fitting (r : Run) : Type 0 where

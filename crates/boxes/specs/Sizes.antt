@@ -2,12 +2,10 @@
 use mathlib.Core.Bool.{Bool, _&&_, not, cond}
 use mathlib.Core.Option.{Option, none, some}
 use mathlib.Core.List.{List}
-use Prim.Native.Nat.{ℕ, zero, suc, _+_, _≤_}
+use Prim.Native.Nat.{ℕ, zero, suc, _+_}
 use lib.ListN.{length}
 use Rattle.octets.specs.Numbers.{text}
 use Rattle.panel.specs.Panel.{Colour}
-use Rattle.panel.specs.Iloc.{wide}
-use Rattle.panel.specs.declared.GridDims.{GridDims}
 use Rattle.panel.specs.declared.color.Cicp.{Cicp}
 use Rattle.panel.specs.declared.metadata.ContentLightLevel.{ContentLightLevel}
 
@@ -48,22 +46,7 @@ abbrev pub clli-size : Option ContentLightLevel → ℕ
 clli-size none = 0
 clli-size (some l) = 12
 
--- ---- the descriptor of a grid, and ftyp
-
-abbrev pub descriptor-size : GridDims → ℕ
-descriptor-size d = cond (wide d) 12 8
-
--- the sides of a grid that check 1 lets pass
-pub record Sided (d : GridDims) : Type 0 where
-  pub rows : 1 ≤ d .rows
-  pub rows-most : d .rows ≤ 256
-  pub cols : 1 ≤ d .cols
-  pub cols-most : d .cols ≤ 256
-
--- sizes of 16 bits
-pub record Narrow (d : GridDims) : Type 0 where
-  pub width : d .«full_w» ≤ 65535
-  pub height : d .«full_h» ≤ 65535
+-- ---- ftyp
 
 -- of a picture whose record is rext or not
 abbrev pub brand : Bool → List ℕ

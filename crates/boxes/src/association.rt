@@ -1,5 +1,6 @@
 // The entries of ipma, from runs of property positions.
 ghost use mathlib.Core.Path.{_≡_};
+ghost use mathlib.Core.Bool.{cond};
 ghost use mathlib.Core.List.{map, flatMap};
 ghost use Prim.Native.Nat.{_+_, _*_, _≤_};
 ghost use lib.ListN.{length};
@@ -7,7 +8,7 @@ ghost use Rattle.octets.specs.Numbers.{_‖_, be};
 ghost use Rattle.octets.specs.Stores.{Wrote};
 ghost use Rattle.panel.specs.Items.{ordinary};
 ghost use Rattle.panel.specs.Ipma.{essential, _with_, each, association};
-ghost use Rattle.boxes.specs.Runs.{places, Fitting};
+ghost use Rattle.boxes.specs.Runs.{places, marked, Fitting};
 use crate::ids::write_id;
 use octets::w8;
 use panel::ItemId;
@@ -36,22 +37,21 @@ fn write_marked(out: &mut [u8], at: usize, run: Run, mark: u8) -> usize
     a
 }
 
-// Associations that are not essential.
-pub fn write_run(out: &mut [u8], at: usize, run: Run) -> usize
-    requires { ⌜ at + run .count ≤ length (now out) ⌝ }
-    requires { ⌜ Fitting run ⌝ }
-    ensures { λ r. ⌜ Wrote (now (out .entry)) at (run .count) (places run) (now (out .exit)) r ⌝ }
+// The bit that marks an association as essential.
+fn mark_of(is_essential: bool) -> u8
+    ensures { λ r. ⌜ r ≡ cond «is_essential» 128 0 ⌝ }
+    ensures { λ r. ⌜ r ≤ 128 ⌝ }
 {
-    write_marked(out, at, run, 0)
+    if is_essential { 128 } else { 0 }
 }
 
-// Essential associations.
-pub fn write_essential(out: &mut [u8], at: usize, run: Run) -> usize
+// The associations of a role, essential or not.
+pub fn write_run(out: &mut [u8], at: usize, run: Run, is_essential: bool) -> usize
     requires { ⌜ at + run .count ≤ length (now out) ⌝ }
     requires { ⌜ Fitting run ⌝ }
-    ensures { λ r. ⌜ Wrote (now (out .entry)) at (run .count) (essential (places run)) (now (out .exit)) r ⌝ }
+    ensures { λ r. ⌜ Wrote (now (out .entry)) at (run .count) (marked «is_essential» (places run)) (now (out .exit)) r ⌝ }
 {
-    write_marked(out, at, run, 128)
+    write_marked(out, at, run, mark_of(is_essential))
 }
 
 // The head of an entry: the item's id and the count of its associations.
@@ -80,9 +80,9 @@ pub fn write_tile_association(
     ensures { λ r. ⌜ Wrote (now (out .entry)) at (3 + (one .count + (two .count + three .count))) (association ordinary (id .0 with essential (places one) ‖ essential (places two) ‖ essential (places three))) (now (out .exit)) r ⌝ }
 {
     let a = write_association_head(out, at, id, one.count + (two.count + three.count));
-    let b = write_essential(out, a, one);
-    let c = write_essential(out, b, two);
-    write_essential(out, c, three)
+    let b = write_run(out, a, one, true);
+    let c = write_run(out, b, two, true);
+    write_run(out, c, three, true)
 }
 
 // The entries of n tiles from `first` on.
@@ -121,6 +121,6 @@ pub fn write_turns(out: &mut [u8], at: usize, irot: Run, imir: Run) -> usize
     requires { ⌜ Fitting imir ⌝ }
     ensures { λ r. ⌜ Wrote (now (out .entry)) at (irot .count + imir .count) (essential (places irot) ‖ essential (places imir)) (now (out .exit)) r ⌝ }
 {
-    let a = write_essential(out, at, irot);
-    write_essential(out, a, imir)
+    let a = write_run(out, at, irot, true);
+    write_run(out, a, imir, true)
 }

@@ -7,7 +7,6 @@ pub mod colr;
 pub mod ftyp;
 pub mod ids;
 pub mod infe;
-pub mod location;
 pub mod meta;
 pub mod property;
 pub mod reference;

@@ -9,14 +9,15 @@ use Rattle.octets.specs.Numbers.{_‖_}
 use Rattle.panel.specs.Items.{ordinary, given, gain-id}
 use Rattle.panel.specs.Iloc.{entry, located}
 use Rattle.panel.specs.declared.Shape.{Shape}
-use Rattle.boxes.specs.Spans.{spans}
+use Rattle.locations.specs.Spans.{spans}
 use Rattle.boxes.specs.Runs.{Shaped}
 use Rattle.boxes.specs.declared.association.Run.{Run}
-use Rattle.boxes.proofs.Spans.{entries-append}
+use Rattle.locations.proofs.Spans.{entries-append}
 use Rattle.boxes.proofs.Marks.{length-places, length-essential}
-use Rattle.gain_map.specs.Places.{image-count, image-list, tone-count, tone-list}
-use Rattle.gain_map.specs.declared.positions.ImagePlaces.{ImagePlaces}
-use Rattle.gain_map.specs.declared.positions.TonePlaces.{TonePlaces}
+use Rattle.places.specs.Counts.{image-count, tone-count}
+use Rattle.gain_map.specs.Lists.{image-list, tone-list}
+use Rattle.places.specs.declared.positions.ImagePlaces.{ImagePlaces}
+use Rattle.places.specs.declared.positions.TonePlaces.{TonePlaces}
 
 pub tone-behind : (s : Shape) (o a b t : ℕ)
     → flatMap (entry ordinary) (located (gain-id s) 0 (spans o (a ∷ b ∷ []))) ++ flatMap (entry ordinary) (located (gain-id s + 2) 0 (spans (o + a + b) (given (s .tone) (t ∷ []))))

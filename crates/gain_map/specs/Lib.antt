@@ -1,4 +1,4 @@
-pub mod Places
+pub mod Lists
 pub mod Sizes
 pub mod Data
 pub mod Properties

@@ -1,6 +1,5 @@
 // The gain map's entries in ipma.
-ghost use mathlib.Core.Path.{_≡_};
-ghost use mathlib.Core.Bool.{true, cond};
+ghost use mathlib.Core.Bool.{cond};
 ghost use mathlib.Core.List.{[], _∷_, flatMap};
 ghost use Prim.Native.Nat.{_+_, _≤_};
 ghost use lib.ListN.{length};
@@ -9,17 +8,20 @@ ghost use Rattle.octets.specs.Stores.{Wrote};
 ghost use Rattle.panel.specs.Items.{ordinary, given, gain-id};
 ghost use Rattle.panel.specs.Ipma.{_with_, association};
 ghost use Rattle.boxes.specs.Runs.{Fitting, Shaped};
-ghost use Rattle.gain_map.specs.Places.{Image-fits, image-count, image-list, Tone-fits, tone-count, tone-list};
-use crate::items::image_id;
-use crate::items::tmap_id;
-use crate::positions::ImagePlaces;
-use crate::positions::TonePlaces;
+ghost use Rattle.places.specs.Places.{Image-fits, Tone-fits};
+ghost use Rattle.places.specs.Counts.{image-count, tone-count};
+ghost use Rattle.gain_map.specs.Lists.{image-list, tone-list};
 use boxes::association::Run;
 use boxes::association::write_association_head;
-use boxes::association::write_essential;
 use boxes::association::write_run;
 use boxes::association::write_turns;
+use gain_items::image_id;
+use gain_items::tmap_id;
 use panel::Shape;
+use places::associations::image_count;
+use places::associations::tone_count;
+use places::positions::ImagePlaces;
+use places::positions::TonePlaces;
 
 // The gain image's properties and transforms, without the head of the entry.
 fn write_image_list(out: &mut [u8], at: usize, p: ImagePlaces, irot: Run, imir: Run) -> usize
@@ -34,28 +36,12 @@ fn write_image_list(out: &mut [u8], at: usize, p: ImagePlaces, irot: Run, imir: 
     let pixi = p.pixi;
     let auxc = p.auxc;
     let colr = p.colr;
-    let a = write_essential(out, at, hvcc);
-    let b = write_run(out, a, ispe);
-    let c = write_run(out, b, pixi);
-    let d = write_run(out, c, auxc);
-    let e = write_run(out, d, colr);
+    let a = write_run(out, at, hvcc, true);
+    let b = write_run(out, a, ispe, false);
+    let c = write_run(out, b, pixi, false);
+    let d = write_run(out, c, auxc, false);
+    let e = write_run(out, d, colr, false);
     write_turns(out, e, irot, imir)
-}
-
-// How many associations the gain image has.
-fn image_count(p: ImagePlaces, irot: Run, imir: Run) -> u8
-    requires { ⌜ Image-fits p ⌝ }
-    requires { ⌜ Fitting irot ⌝ }
-    requires { ⌜ Fitting imir ⌝ }
-    ensures { λ r. ⌜ r ≡ image-count p irot imir ⌝ }
-{
-    let hvcc = p.hvcc;
-    let ispe = p.ispe;
-    let pixi = p.pixi;
-    let auxc = p.auxc;
-    let colr = p.colr;
-    hvcc.count
-        + (ispe.count + (pixi.count + (auxc.count + (colr.count + (irot.count + imir.count)))))
 }
 
 // The gain image's entry, where there is one.
@@ -91,20 +77,9 @@ fn write_tone_list(out: &mut [u8], at: usize, p: TonePlaces) -> usize
     let ispe = p.ispe;
     let pixi = p.pixi;
     let colr = p.colr;
-    let a = write_run(out, at, ispe);
-    let b = write_run(out, a, pixi);
-    write_run(out, b, colr)
-}
-
-// How many associations the tone map has.
-fn tone_count(p: TonePlaces) -> u8
-    requires { ⌜ Tone-fits p ⌝ }
-    ensures { λ r. ⌜ r ≡ tone-count p ⌝ }
-{
-    let ispe = p.ispe;
-    let pixi = p.pixi;
-    let colr = p.colr;
-    ispe.count + (pixi.count + colr.count)
+    let a = write_run(out, at, ispe, false);
+    let b = write_run(out, a, pixi, false);
+    write_run(out, b, colr, false)
 }
 
 // The tone map's entry, where there is one. None of its properties is essential.

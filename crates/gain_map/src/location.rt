@@ -7,13 +7,13 @@ ghost use lib.ListN.{length};
 ghost use Rattle.octets.specs.Stores.{Wrote};
 ghost use Rattle.panel.specs.Items.{ordinary, given, gain-id};
 ghost use Rattle.panel.specs.Iloc.{entry, located};
-ghost use Rattle.boxes.specs.Spans.{spans};
+ghost use Rattle.locations.specs.Spans.{spans};
 ghost use Rattle.boxes.specs.Runs.{Shaped};
 ghost use Rattle.gain_map.specs.Sizes.{sizes};
-use crate::items::image_id;
-use crate::items::tmap_id;
-use crate::items::xmp_id;
-use boxes::location::write_location;
+use gain_items::image_id;
+use gain_items::tmap_id;
+use gain_items::xmp_id;
+use locations::write_location;
 use panel::Shape;
 
 // The lengths of the gain map's payloads: the sample, the XMP and the tone map, 0 where there is none.

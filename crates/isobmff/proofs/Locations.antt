@@ -17,8 +17,8 @@ use Rattle.panel.specs.declared.Shape.{Shape}
 use Rattle.panel.proofs.Ids.{length-given}
 use Rattle.panel.proofs.Payloads.{length-entry}
 use Rattle.length.specs.Size.{iloc-size}
-use Rattle.boxes.specs.Spans.{spans, location}
-use Rattle.boxes.proofs.Spans.{entries-append, length-spans}
+use Rattle.locations.specs.Spans.{spans, location}
+use Rattle.locations.proofs.Spans.{entries-append, length-spans}
 use Rattle.gain_map.specs.Sizes.{sizes}
 use Rattle.gain_map.specs.declared.location.GainLengths.{GainLengths}
 use Rattle.isobmff.specs.Locations.{other-sizes, placed}

@@ -5,7 +5,7 @@ use Rattle.octets.specs.Numbers.{_‖_}
 use Rattle.panel.specs.Items.{given, colour-grid, alpha-tile, alpha-grid, exif-id}
 use Rattle.panel.specs.Iloc.{Location, located}
 use Rattle.panel.specs.declared.Shape.{Shape}
-use Rattle.boxes.specs.Spans.{spans}
+use Rattle.locations.specs.Spans.{spans}
 use Rattle.gain_map.specs.Sizes.{sizes}
 use Rattle.gain_map.specs.declared.location.GainLengths.{GainLengths}
 

@@ -17,11 +17,12 @@ use Rattle.panel.specs.declared.GridDims.{GridDims}
 use Rattle.panel.specs.declared.Shape.{Shape}
 use Rattle.length.specs.Properties.{ipco-size}
 use Rattle.length.specs.Size.{iloc-size, iinf-size, iref-size}
-use Rattle.boxes.specs.Sizes.{descriptor-size}
+use Rattle.grids.specs.Descriptors.{descriptor-size}
 use Rattle.boxes.specs.Runs.{Shaped}
-use Rattle.layout.specs.declared.Layout.{Layout}
-use Rattle.isobmff.specs.Roles.{its-of, ipma-bytes}
-use Rattle.isobmff.specs.declared.association.Places.{Places}
+use Rattle.offsets.specs.declared.Layout.{Layout}
+use Rattle.places.specs.Roles.{its-of}
+use Rattle.places.specs.Counts.{ipma-bytes}
+use Rattle.places.specs.declared.Places.{Places}
 
 -- hdlr to iref
 abbrev pub item-boxes : Shape → List Location → List Box

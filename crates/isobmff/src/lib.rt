@@ -1,9 +1,6 @@
 // The sections of the file, in file order, and the positions of its properties.
 
-pub mod association;
-pub mod items;
 pub mod location;
 pub mod meta;
 pub mod payload;
-pub mod places;
 pub mod property;

@@ -9,29 +9,30 @@ ghost use Rattle.octets.specs.Stores.{Boxed};
 ghost use Rattle.panel.specs.Of.{panel-of};
 ghost use Rattle.panel.specs.File.{idat};
 ghost use Rattle.length.specs.Properties.{pictures};
-ghost use Rattle.boxes.specs.Sizes.{descriptor-size, Sided};
+ghost use Rattle.grids.specs.Descriptors.{descriptor-size, Sided};
 ghost use Rattle.isobmff.specs.Locations.{other-sizes, placed};
 ghost use Rattle.isobmff.specs.Parts.{lent-props};
-ghost use Rattle.isobmff.specs.Roles.{Fit, ipma-bytes};
+ghost use Rattle.places.specs.Roles.{Fit};
+ghost use Rattle.places.specs.Counts.{ipma-bytes};
 ghost use Rattle.isobmff.specs.Sections.{item-boxes, item-boxes-size, Item-sizes, iprp-of, iprp-bytes, idat-bytes, property-boxes, property-boxes-size, Property-sizes};
-use crate::association::Places;
-use crate::association::write_ipma;
-use crate::items::write_iinf;
-use crate::items::write_iref;
 use crate::location::Offsets;
 use crate::location::write_iloc;
 use crate::property::write_ipco;
 use boxes::ids::color_grid_id;
-use boxes::meta::write_descriptor;
 use boxes::meta::write_hdlr;
 use boxes::meta::write_pitm;
 use gain_map::location::GainLengths;
-use layout::Layout;
+use grids::write_descriptor;
+use ipma::write_ipma;
+use items::write_iinf;
+use items::write_iref;
 use octets::write_box;
 use octets::write_fullbox;
+use offsets::Layout;
 use panel::GridDims;
 use panel::Panel;
 use panel::Shape;
+use places::Places;
 
 // idat: the descriptor of each grid.
 pub fn write_idat(out: &mut [u8], at: usize, size: u32, d: GridDims) -> usize
@@ -164,7 +165,7 @@ pub fn write_property_boxes(
         gain_hvcc,
         alternate_icc,
     );
-    let b = gain_map::items::write_groups(out, a, s);
+    let b = gain_items::write_groups(out, a, s);
     write_idat(out, b, y.idat, dims)
 }
 

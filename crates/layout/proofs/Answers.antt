@@ -19,7 +19,8 @@ use Rattle.panel.specs.declared.Shape.{Shape}
 use Rattle.length.specs.Parts.{Even}
 use Rattle.length.specs.Size.{size}
 use Rattle.length.proofs.File.{length-file}
-use Rattle.layout.specs.Capped.{Capped}
+use Rattle.grids.proofs.Wide.{or-false}
+use Rattle.sizes.specs.Capped.{Capped}
 
 -- ---- a list of checks
 
@@ -43,10 +44,6 @@ unfolding length-answer
 answered p e = sym (ap (λ (k : ℕ). outcome k (length (file ordinary p))) e)
 
 -- ---- what a test that did not hold says
-
-or-false : (a b : Bool) → (a || b) ≡ false → (a ≡ false) × (b ≡ false)
-or-false true b e = absurd (let z : _≡_ {A = ℕ} 0 1 = cc in omega arith)
-or-false false b e = (refl, e)
 
 side-most : (n : ℕ) → bad-side n ≡ false → n ≤ 256
 side-most n e = ltb-false 256 n (or-false (ltb n 1) (ltb 256 n) e .1)

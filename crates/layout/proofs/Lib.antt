@@ -1,3 +1,1 @@
-pub mod Caps
 pub mod Answers
-pub mod Exact

@@ -1,4 +1,1 @@
 pub mod Lent
-pub mod Capped
-pub mod Sized
-pub mod Laid

@@ -1,9 +1,4 @@
-// The length of a panel's file, and where each of its boxes lies: computed from lengths alone, before anything is written.
-
-pub mod lengths;
-pub mod properties;
-pub mod sizes;
-
+// The length call, and the layout of an accepted panel's file: computed from lengths alone, before anything is written.
 ghost use mathlib.Core.Path.{_≡_};
 ghost use Rattle.panel.specs.Of.{panel-of};
 ghost use Rattle.panel.specs.Items.{ordinary};
@@ -11,47 +6,25 @@ ghost use Rattle.panel.specs.Refusal.{refusal};
 ghost use Rattle.panel.specs.Widths.{Fits};
 ghost use Rattle.panel.specs.Answer.{says, length-answer};
 ghost use Rattle.layout.specs.Lent.{lent};
-ghost use Rattle.layout.specs.Laid.{Laid, Given, Within};
-use crate::lengths::gain_lengths;
-use crate::lengths::lengths_of;
-use crate::sizes::Sizes;
-use crate::sizes::file_size;
-use crate::sizes::gain_uses_rext;
-use crate::sizes::sizes_of;
+ghost use Rattle.offsets.specs.Laid.{Laid};
 use boxes::ftyp::hvcc_uses_rext;
-use boxes::meta::descriptor_length;
 use checks::bad_counts;
 use checks::bad_grid;
 use checks::bad_sums;
 use checks::fits::numbers_fit;
 use checks::shape::last_id;
 use checks::shape::shape_of;
+use grids::descriptor_length;
+use offsets::Layout;
+use offsets::file_size;
+use offsets::placed;
 use panel::Answer;
 use panel::Panel;
 use panel::Refusal;
-use panel::Shape;
-
-// Where each box of a file lies: which items it has, the length of a grid's descriptor, the whole size of each box, the offsets where the
-// colour samples, the alpha samples and the payloads behind them begin, and whether the records are of the range extensions' profile.
-pub struct Layout {
-    pub shape: Shape,
-    pub descriptor: u32,
-    pub ftyp: u32,
-    pub meta: u32,
-    pub iloc: u32,
-    pub iinf: u32,
-    pub iref: u32,
-    pub iprp: u32,
-    pub ipco: u32,
-    pub ipma: u32,
-    pub idat: u32,
-    pub mdat: u32,
-    pub color_data: u32,
-    pub alpha_data: u32,
-    pub other_data: u32,
-    pub color_rext: bool,
-    pub gain_rext: bool,
-}
+use sizes::gain_uses_rext;
+use sizes::lengths::gain_lengths;
+use sizes::lengths::lengths_of;
+use sizes::sizes_of;
 
 // The length of a panel's file, or why it is refused: the checks 1 to 5 in their order, each with its own answer.
 // Above 40 lines by its parameters, one to a line: each byte part is a slice of its own.
@@ -112,43 +85,6 @@ pub fn file_length(
         return Answer::Refused(Refusal::FileLength);
     }
     Answer::Length(size)
-}
-
-// The layout that sizes make, of a file with so many bytes of colour and alpha samples.
-fn placed(
-    z: Sizes,
-    shape: Shape,
-    descriptor: u32,
-    colors: usize,
-    alphas: usize,
-    color_rext: bool,
-    gain_rext: bool,
-) -> Layout
-    requires { ⌜ Within z colors alphas ⌝ }
-    ensures { λ r. ⌜ ((p : _) → Given p z shape descriptor colors alphas «color_rext» «gain_rext» → Laid p r) ⌝ }
-{
-    let color_data = z.ftyp as u64 + z.meta + 8;
-    let alpha_data = color_data + colors as u64;
-    let other_data = alpha_data + alphas as u64;
-    Layout {
-        shape,
-        descriptor,
-        ftyp: z.ftyp,
-        meta: z.meta as u32,
-        iloc: z.iloc,
-        iinf: z.iinf,
-        iref: z.iref,
-        iprp: z.iprp as u32,
-        ipco: z.ipco as u32,
-        ipma: z.ipma,
-        idat: z.idat,
-        mdat: z.mdat as u32,
-        color_data: color_data as u32,
-        alpha_data: alpha_data as u32,
-        other_data: other_data as u32,
-        color_rext,
-        gain_rext,
-    }
 }
 
 // The layout of an accepted panel's file.

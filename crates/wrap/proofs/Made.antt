@@ -22,17 +22,17 @@ use Rattle.panel.specs.declared.gain_map.MaybeGainMap.{MaybeGainMap}
 use Rattle.panel.specs.declared.gain_map.MaybeGainMap.the-variants as G
 use Rattle.panel.proofs.Payloads.{flatten-samples, lengths-samples, cut, locations-runs}
 use Rattle.length.specs.Parts.{Even}
-use Rattle.boxes.specs.Spans.{spans}
-use Rattle.boxes.proofs.Spans.{extents-spans}
+use Rattle.locations.specs.Spans.{spans}
+use Rattle.locations.proofs.Spans.{extents-spans}
 use Rattle.gain_map.specs.Data.{long, gain-data}
 use Rattle.gain_map.specs.declared.location.GainLengths.{GainLengths}
-use Rattle.layout.specs.Laid.{Laid}
-use Rattle.layout.specs.declared.Layout.{Layout}
+use Rattle.offsets.specs.Laid.{Laid}
+use Rattle.offsets.specs.declared.Layout.{Layout}
 use Rattle.isobmff.specs.Locations.{other-sizes, placed}
 use Rattle.isobmff.specs.Parts.{lent-props, exif-bytes, exif-size}
-use Rattle.isobmff.specs.Roles.{its-of, Placed}
+use Rattle.places.specs.Roles.{its-of, Placed}
 use Rattle.isobmff.specs.Sections.{item-boxes, property-boxes}
-use Rattle.isobmff.specs.declared.association.Places.{Places}
+use Rattle.places.specs.declared.Places.{Places}
 use Rattle.isobmff.proofs.Parts.{ipco-parts, mdat-parts}
 use Rattle.wrap.specs.Gains.{gain-lengths}
 use Rattle.wrap.proofs.Ready.{even, color-sum, alpha-sum, same-associations, same-dims, same-tiles, same-alpha}

@@ -28,19 +28,23 @@ use Rattle.length.proofs.Boxes.{length-iloc, length-iinf, length-iref}
 use Rattle.length.proofs.Properties.{length-ipco, length-ipma}
 use Rattle.length.proofs.File.{length-head, length-iprp, length-idat, length-meta, length-mdat, data-at-size, length-file, even-accepted}
 use Rattle.boxes.specs.Runs.{places, Shaped}
-use Rattle.boxes.specs.Sizes.{Sided, ftyp-size}
+use Rattle.grids.specs.Descriptors.{Sided}
+use Rattle.boxes.specs.Sizes.{ftyp-size}
 use Rattle.boxes.proofs.Marks.{length-places, length-essential}
-use Rattle.gain_map.specs.Places.{image-list, tone-list, image-count, tone-count}
+use Rattle.gain_map.specs.Lists.{image-list, tone-list}
+use Rattle.places.specs.Counts.{image-count, tone-count}
 use Rattle.gain_map.specs.Data.{gain-data-size}
-use Rattle.layout.specs.Laid.{Laid}
-use Rattle.layout.specs.declared.Layout.{Layout}
+use Rattle.offsets.specs.Laid.{Laid}
+use Rattle.offsets.specs.declared.Layout.{Layout}
 use Rattle.isobmff.specs.Parts.{lent-props, exif-size}
-use Rattle.isobmff.specs.Places.{color-grid-list, alpha-grid-list, color-entries, alpha-entries}
-use Rattle.isobmff.specs.Roles.{its-of, Placed, ipma-bytes}
+use Rattle.grid_lists.specs.Lists.{color-grid-list, alpha-grid-list}
+use Rattle.ipma.specs.Entries.{color-entries, alpha-entries}
+use Rattle.places.specs.Roles.{its-of, Placed}
+use Rattle.places.specs.Counts.{ipma-bytes}
 use Rattle.isobmff.specs.Sections.{item-boxes-size, Item-sizes, iprp-bytes, idat-bytes, property-boxes-size, Property-sizes}
-use Rattle.isobmff.specs.declared.association.Places.{Places}
-use Rattle.isobmff.proofs.Joins.{length-color-grid-list, length-alpha-grid-list}
-use Rattle.isobmff.proofs.Associations.{gain-entries, entries-joined}
+use Rattle.places.specs.declared.Places.{Places}
+use Rattle.grid_lists.proofs.Counts.{length-color-grid-list, length-alpha-grid-list}
+use Rattle.ipma.proofs.Associations.{gain-entries, entries-joined}
 use Rattle.panel.specs.declared.gain_map.MaybeGainMap.{MaybeGainMap}
 use Rattle.panel.specs.declared.gain_map.MaybeGainMap.the-variants as G
 use Rattle.wrap.specs.Gains.{gain-lengths}

@@ -11,25 +11,25 @@ ghost use Rattle.panel.specs.Widths.{Fits};
 ghost use Rattle.panel.specs.Answer.{says, Promised};
 ghost use Rattle.gain_map.specs.Data.{long, gain-data-size};
 ghost use Rattle.layout.specs.Lent.{lent};
-ghost use Rattle.layout.specs.Laid.{Laid};
+ghost use Rattle.offsets.specs.Laid.{Laid};
 ghost use Rattle.isobmff.specs.Parts.{exif-size};
-ghost use Rattle.isobmff.specs.Roles.{Placed, Fit};
+ghost use Rattle.places.specs.Roles.{Placed, Fit};
 ghost use Rattle.wrap.specs.Gains.{gain-lengths};
 use boxes::ftyp::write_ftyp;
 use gain_map::location::GainLengths;
-use isobmff::association::Places;
 use isobmff::meta::write_meta;
 use isobmff::payload::write_mdat;
-use isobmff::places::places_of;
-use layout::Layout;
 use layout::file_length;
 use layout::lay_out;
-use layout::properties::picture_count;
+use offsets::Layout;
 use panel::Answer;
 use panel::Panel;
 use panel::Refusal;
 use panel::color::Part;
 use panel::gain_map::MaybeGainMap;
+use places::Places;
+use places::places_of;
+use sizes::properties::picture_count;
 
 // The length of the Exif payload, 0 where it is absent.
 fn exif_length(present: Part, exif: &[u8]) -> u32

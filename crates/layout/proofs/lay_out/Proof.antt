@@ -6,7 +6,7 @@ use Prim.Native.Nat.{_≤_}
 use lib.ListN.{length}
 use Rattle.panel.specs.Of.{panel-of}
 use Rattle.panel.specs.Items.{ordinary}
-use Rattle.layout.proofs.Exact.{few-accepted, within}
+use Rattle.offsets.proofs.Exact.{few-accepted, within}
 use Rattle.panel.proofs.Accepted.{accepted}
 use Rattle.length.proofs.File.{length-descriptor, even-accepted}
 use Rattle.layout.specs.Lent.{lent}

@@ -1,15 +1,18 @@
--- Positions with nothing added.
+-- Positions with the mark added, or none.
 use borrow.Author.Needs.{needs}
 use mathlib.Core.Path.{refl}
 use Rattle.octets.proofs.Stores.{told}
-use Rattle.boxes.proofs.Marks.{unmarked}
+use Rattle.boxes.specs.Runs.{places}
+use Rattle.boxes.proofs.Marks.{by-mark}
 use Rattle.boxes.proofs.association.write_run.Statement.{statement}
 use Rattle.boxes.proofs.association.write_run.Tie as tie
 
 returns : tie.Need-returns
 returns c =
-    let c1 = c .before .before in
-    told (c1 .write-marked .ensures) (unmarked _) refl
+    let c2 = c .before .before in
+    let c1 = c2 .before in
+    let start = c1 .before .before .before in
+    told (c2 .write-marked .ensures) (by-mark (start .args .is-essential) (places (start .args .run)) (c1 .mark-of .ensures .0)) refl
 
 pub write-run-spec : {M : Type 1} → statement M
-write-run-spec = tie.close (tie.spec (λ c κs. search needs) (λ c. search needs) returns)
+write-run-spec = tie.close (tie.spec (λ c κs. search needs) (λ c κs. search needs) (λ c. search needs) returns)

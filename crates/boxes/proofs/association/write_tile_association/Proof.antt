@@ -13,7 +13,7 @@ returns c =
     let c2 = c3 .before .before .before .before in
     let c1 = c2 .before .before .before .before in
     let start = c1 .before .before .before .before .before .before in
-    told ((c1 .write-association-head .ensures) ▹ (c2 .write-essential .ensures) ▹ (c3 .write-essential2 .ensures) ▹ (c4 .write-essential3 .ensures)) (three-associated (start .args .id .0) (start .args .one) (start .args .two) (start .args .three)) refl
+    told ((c1 .write-association-head .ensures) ▹ (c2 .write-run .ensures) ▹ (c3 .write-run2 .ensures) ▹ (c4 .write-run3 .ensures)) (three-associated (start .args .id .0) (start .args .one) (start .args .two) (start .args .three)) refl
 
 pub write-tile-association-spec : {M : Type 1} → statement M
 write-tile-association-spec = tie.close (tie.spec (λ c. search needs) (λ c. search needs) (λ c κs. search needs) (λ c κs. search needs) (λ c κs. search needs) (λ c κs. search needs) (λ c. search needs) returns)

@@ -8,7 +8,7 @@ returns : tie.Need-returns
 returns c =
     let c2 = c .before .before in
     let c1 = c2 .before .before .before .before in
-    (c1 .write-essential .ensures) ▹ (c2 .write-essential2 .ensures)
+    (c1 .write-run .ensures) ▹ (c2 .write-run2 .ensures)
 
 pub write-turns-spec : {M : Type 1} → statement M
 write-turns-spec = tie.close (tie.spec (λ c κs. search needs) (λ c κs. search needs) (λ c. search needs) returns)

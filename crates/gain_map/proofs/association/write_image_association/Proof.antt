@@ -6,7 +6,8 @@ use Rattle.octets.proofs.Stores.{_▹_, kept, told, nothing}
 use mathlib.Core.Bool.{Bool, cond}
 use Prim.Native.Nat.{ℕ, _+_}
 use mathlib.Core.List.{flatMap}
-use Rattle.gain_map.specs.Places.{image-count, image-list}
+use Rattle.places.specs.Counts.{image-count}
+use Rattle.gain_map.specs.Lists.{image-list}
 use Rattle.gain_map.proofs.Joins.{length-image-list}
 use Rattle.boxes.proofs.Marks.{associated}
 use Rattle.gain_map.proofs.association.write_image_association.Statement.{statement}

@@ -6,7 +6,7 @@ use Rattle.octets.proofs.Stores.{_▹_, kept, told, nothing}
 use mathlib.Core.Bool.{Bool, cond}
 use Prim.Native.Nat.{ℕ}
 use mathlib.Core.List.{flatMap}
-use Rattle.boxes.specs.Spans.{spans}
+use Rattle.locations.specs.Spans.{spans}
 use Rattle.gain_map.proofs.Joins.{tone-behind, tone-absent}
 use Rattle.gain_map.proofs.location.write_iloc.Statement.{statement}
 use Rattle.gain_map.proofs.location.write_iloc.Tie as tie

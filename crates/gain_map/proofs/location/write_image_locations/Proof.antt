@@ -6,7 +6,7 @@ use Prim.Native.Nat.{ℕ, _+_}
 use mathlib.Core.List.{flatMap}
 use Rattle.panel.specs.Items.{ordinary}
 use Rattle.panel.specs.Iloc.{entry}
-use Rattle.boxes.specs.Spans.{spans, location}
+use Rattle.locations.specs.Spans.{spans, location}
 use native.Mathlib.Numerals.{add-one}
 use Rattle.gain_map.proofs.location.write_image_locations.Statement.{statement}
 use Rattle.gain_map.proofs.location.write_image_locations.Tie as tie

@@ -8,7 +8,7 @@ use Prim.Native.Nat.{ℕ}
 use mathlib.Core.List.{flatMap}
 use Rattle.panel.specs.Items.{ordinary}
 use Rattle.panel.specs.Iloc.{entry}
-use Rattle.boxes.specs.Spans.{spans, location}
+use Rattle.locations.specs.Spans.{spans, location}
 use Rattle.gain_map.proofs.location.write_tone_location.Statement.{statement}
 use Rattle.gain_map.proofs.location.write_tone_location.Tie as tie
 

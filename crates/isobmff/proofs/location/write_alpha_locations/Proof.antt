@@ -6,7 +6,7 @@ use Prim.Native.Nat.{ℕ}
 use mathlib.Core.List.{flatMap}
 use Rattle.panel.specs.Items.{ordinary}
 use Rattle.panel.specs.Iloc.{entry, located}
-use Rattle.boxes.specs.Spans.{spans, location}
+use Rattle.locations.specs.Spans.{spans, location}
 use Rattle.isobmff.proofs.location.write_alpha_locations.Statement.{statement}
 use Rattle.isobmff.proofs.location.write_alpha_locations.Tie as tie
 

@@ -5,7 +5,7 @@ use Rattle.octets.proofs.Stores.{_▹_, told}
 use Prim.Native.Nat.{ℕ}
 use Rattle.panel.specs.Items.{ordinary}
 use Rattle.panel.specs.Iloc.{entry}
-use Rattle.boxes.specs.Spans.{location}
+use Rattle.locations.specs.Spans.{location}
 use Rattle.isobmff.proofs.location.write_color_locations.Statement.{statement}
 use Rattle.isobmff.proofs.location.write_color_locations.Tie as tie
 

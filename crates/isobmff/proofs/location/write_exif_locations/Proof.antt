@@ -6,7 +6,7 @@ use Rattle.octets.proofs.Stores.{_▹_, kept, told}
 use Prim.Native.Nat.{ℕ}
 use Rattle.panel.specs.Items.{ordinary, exif-id}
 use Rattle.panel.specs.Iloc.{entry}
-use Rattle.boxes.specs.Spans.{location}
+use Rattle.locations.specs.Spans.{location}
 use Rattle.isobmff.proofs.Locations.{exif-first}
 use Rattle.isobmff.proofs.location.write_exif_locations.Statement.{statement}
 use Rattle.isobmff.proofs.location.write_exif_locations.Tie as tie

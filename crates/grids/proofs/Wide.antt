@@ -1,0 +1,29 @@
+-- What the code's test of a grid's size says of the definition's.
+use mathlib.Core.Path.{_≡_, refl, sym, ap, _∙_}
+use mathlib.Core.Bool.{Bool, true, false, _||_}
+use Prim.Native.Nat.{ℕ, _≤_, _<_}
+use native.Mathlib.Omega.{arith}
+use lib.Dec.{ltb}
+use borrow.Author.Tests.{lt-ltb, le-ltb, ltb-false}
+use Rattle.panel.specs.Iloc.{wide}
+use Rattle.panel.specs.declared.GridDims.{GridDims}
+use Rattle.grids.specs.Descriptors.{Narrow}
+
+-- of two tests neither holds
+pub or-false : (a b : Bool) → (a || b) ≡ false → (a ≡ false) × (b ≡ false)
+or-false true b e = absurd (let z : _≡_ {A = ℕ} 0 1 = cc in omega arith)
+or-false false b e = (refl, e)
+
+-- a great width decides, and behind a small one the height
+pub by-width : (d : GridDims) → 65535 < d .«full_w» → ltb 65535 (d .«full_w») ≡ wide d
+by-width d h =
+    let e = lt-ltb 65535 (d .«full_w») h in
+    e ∙ sym (ap (λ (b : Bool). b || ltb 65535 (d .«full_h»)) e)
+
+pub by-height : (d : GridDims) → d .«full_w» ≤ 65535 → ltb 65535 (d .«full_h») ≡ wide d
+by-height d h = sym (ap (λ (b : Bool). b || ltb 65535 (d .«full_h»)) (le-ltb 65535 (d .«full_w») h))
+
+pub narrow : (d : GridDims) → wide d ≡ false → Narrow d
+narrow d e =
+    let sides = or-false (ltb 65535 (d .«full_w»)) (ltb 65535 (d .«full_h»)) e in
+    record { width = ltb-false 65535 (d .«full_w») (sides .0); height = ltb-false 65535 (d .«full_h») (sides .1) }

@@ -1,0 +1,18 @@
+-- A wide grid has the longer one.
+use borrow.Author.Needs.{needs}
+use mathlib.Core.Path.{sym, _∙_}
+use Rattle.grids.proofs.descriptor_length.Statement.{statement}
+use Rattle.grids.proofs.descriptor_length.Tie as tie
+
+returns : tie.Need-returns
+returns c =
+    let c1 = c .before in
+    rw (sym (c1 .is-wide .ensures) ∙ c .if1 .taken)
+
+returns-2 : tie.Need-returns-2
+returns-2 c =
+    let c1 = c .before in
+    rw (sym (c1 .is-wide .ensures) ∙ c .if1 .left)
+
+pub descriptor-length-spec : {M : Type 1} → statement M
+descriptor-length-spec = tie.close (tie.spec (λ c κs. search needs) returns returns-2)

@@ -1,0 +1,33 @@
+-- ipma from its pieces: the entries of the two pictures and of the gain map are those of all items.
+use mathlib.Core.Path.{_≡_, sym, ap, _∙_}
+use mathlib.Core.List.{List, [], _∷_, _++_, flatMap}
+use Prim.Native.Nat.{ℕ, _+_}
+use Rattle.octets.specs.Numbers.{_‖_}
+use Rattle.octets.proofs.Lists.{flatMap-append}
+use Rattle.panel.specs.Items.{ordinary, given, gain-id, colour-grid, alpha-tile, alpha-grid}
+use Rattle.panel.specs.Ipma.{Association, _with_, each, essential, associations, association}
+use Rattle.panel.specs.declared.Shape.{Shape}
+use Rattle.boxes.specs.Runs.{places}
+use Rattle.gain_map.specs.Lists.{image-list, tone-list}
+use Rattle.grid_lists.specs.Lists.{color-grid-list, alpha-grid-list}
+use Rattle.ipma.specs.Entries.{color-entries, alpha-entries}
+use Rattle.places.specs.Roles.{its-of}
+use Rattle.places.specs.declared.Places.{Places}
+use Rattle.boxes.proofs.Pictures.{pictures-joined}
+
+-- the gain map's entries
+abbrev pub gain-entries : Shape → Places → List Association
+gain-entries s y =
+    given (s .gain) ((gain-id s with image-list (y .image) (y .options .irot) (y .options .imir)) ∷ []) ‖ given (s .tone) ((gain-id s + 2 with tone-list (y .tone)) ∷ [])
+
+pub entries-joined : (s : Shape) (y : Places)
+    → flatMap (association ordinary) (color-entries s (y .color) (y .options)) ++ (flatMap (association ordinary) (alpha-entries s (y .color) (y .alpha) (y .options)) ++ flatMap (association ordinary) (gain-entries s y))
+    ≡ flatMap (association ordinary) (associations s (its-of y))
+unfolding its-of
+entries-joined s y =
+    let c = y .color in
+    let tiles = each 1 (s .tiles) (essential (places (c .hvcc)) ‖ essential (places (c .«ispe_tile»)) ‖ essential (places (c .colr))) in
+    let alphas = each (alpha-tile s) (s .tiles) (essential (places (y .alpha .hvcc)) ‖ essential (places (c .«ispe_tile»))) in
+    ap (λ (r : List ℕ). flatMap (association ordinary) (color-entries s (y .color) (y .options)) ++ r) (sym (flatMap-append (association ordinary) (alpha-entries s (y .color) (y .alpha) (y .options)) (gain-entries s y)))
+    ∙ sym (flatMap-append (association ordinary) (color-entries s (y .color) (y .options)) (alpha-entries s (y .color) (y .alpha) (y .options) ++ gain-entries s y))
+    ∙ ap (flatMap (association ordinary)) (pictures-joined tiles alphas (gain-entries s y) (colour-grid s with color-grid-list c (y .options)) (alpha-grid s with alpha-grid-list (c .«ispe_full») (y .alpha) (y .options)))

@@ -1,0 +1,20 @@
+-- A reference to the tiles.
+use borrow.Author.Needs.{needs}
+use mathlib.Core.Path.{refl}
+use Rattle.octets.proofs.Stores.{retold}
+use mathlib.Core.List.{[], _∷_}
+use Rattle.panel.specs.Items.{ordinary, ids-from}
+use Rattle.panel.specs.Iref.{reference}
+use Rattle.items.proofs.write_alpha_dimg.Statement.{statement}
+use Rattle.items.proofs.write_alpha_dimg.Tie as tie
+
+returns : tie.Need-returns
+returns c =
+    let c3 = c .before .before in
+    let c2 = c3 .before .before in
+    let c1 = c2 .before in
+    let start = c1 .before .before in
+    retold (c3 .write-dimg-tiles .ensures) (λ i. reference ordinary "dimg" ((c1 .alpha-grid-id .ensures) i) (ids-from ((c2 .alpha-tile-base .ensures) i) (start .args .s .tiles)) ∷ []) refl
+
+pub write-alpha-dimg-spec : {M : Type 1} → statement M
+write-alpha-dimg-spec = tie.close (tie.spec (λ c κs. search needs) (λ c κs. search needs) (λ c κs. search needs) (λ c. search needs) returns)

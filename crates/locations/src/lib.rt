@@ -1,0 +1,60 @@
+// The entries of iloc.
+ghost use mathlib.Core.List.{flatMap};
+ghost use Prim.Native.Nat.{_+_, _*_, _≤_, _<_};
+ghost use lib.ListN.{length};
+ghost use Rattle.octets.specs.Numbers.{total};
+ghost use Rattle.octets.specs.Stores.{Wrote};
+ghost use Rattle.panel.specs.Items.{ordinary};
+ghost use Rattle.panel.specs.Iloc.{entry, located};
+ghost use Rattle.locations.specs.Spans.{location, spans};
+use boxes::ids::write_id;
+use octets::w16;
+use octets::w32;
+use panel::ItemId;
+
+// An item's id, its construction method, and its one extent.
+pub fn write_location(
+    out: &mut [u8],
+    at: usize,
+    id: ItemId,
+    method: u16,
+    offset: u32,
+    size: u32,
+) -> usize
+    requires { ⌜ at + 16 ≤ length (now out) ⌝ }
+    ensures { λ r. ⌜ Wrote (now (out .entry)) at 16 (entry ordinary (location (id .0) method offset size)) (now (out .exit)) r ⌝ }
+{
+    let a = write_id(out, at, id);
+    let b = w16(out, a, method);
+    let c = w16(out, b, 0);
+    let d = w16(out, c, 1);
+    let e = w32(out, d, offset);
+    w32(out, e, size)
+}
+
+// The entries of tiles with ids from `first` on, whose samples lie back to back from `offset` on.
+pub fn write_tile_locations(
+    out: &mut [u8],
+    at: usize,
+    first: ItemId,
+    offset: u32,
+    lengths: &[u32],
+) -> usize
+    requires { ⌜ at + 16 * length (now lengths) ≤ length (now out) ⌝ }
+    requires { ⌜ first .0 + length (now lengths) ≤ 65535 ⌝ }
+    requires { ⌜ offset + total (now lengths) < 4294967296 ⌝ }
+    ensures { λ r. ⌜ Wrote (now (out .entry)) at (16 * length (now (lengths .entry))) (flatMap (entry ordinary) (located (first .0) 0 (spans offset (now (lengths .entry))))) (now (out .exit)) r ⌝ }
+{
+    let mut i = 0;
+    let mut a = at;
+    let mut id = first.0;
+    let mut p = offset;
+    while i < lengths.len() {
+        let n = lengths[i];
+        a = write_location(out, a, ItemId(id), 0, p, n);
+        id += 1;
+        p += n;
+        i += 1;
+    }
+    a
+}

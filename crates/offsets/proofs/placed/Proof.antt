@@ -1,0 +1,34 @@
+-- Sizes that make a file are lengths, and the data lie behind ftyp, meta and the head of mdat.
+use borrow.Author.Needs.{needs}
+use native.Mathlib.Omega.{arith}
+use Rattle.offsets.proofs.Exact.{as-lengths}
+use Rattle.offsets.proofs.placed.Statement.{statement}
+use Rattle.offsets.proofs.placed.Tie as tie
+
+returns : tie.Need-returns
+returns c =
+    let start = c .before .before .before .before .before .before in
+    λ p g.
+    let x = as-lengths p (start .args .z) (g .even) (g .sized) (start .pre .file) in
+    record {
+      items = g .items;
+      grid = g .grid;
+      ftyp = x .ftyp;
+      iloc = x .iloc;
+      iinf = x .iinf;
+      iref = x .iref;
+      iprp = x .iprp;
+      ipco = x .ipco;
+      ipma = x .ipma;
+      idat = x .idat;
+      meta = x .meta;
+      mdat = x .mdat;
+      color-data = omega (arith, x .data-at);
+      alpha-data = omega (arith, x .data-at, g .colors);
+      other-data = omega (arith, x .data-at, g .colors, g .alphas);
+      color-rext = g .color-rext;
+      gain-rext = g .gain-rext;
+    }
+
+pub placed-spec : {M : Type 1} → statement M
+placed-spec = tie.close (tie.spec (λ c. search needs) (λ c. search needs) (λ c. search needs) (λ c. search needs) (λ c. search needs) (λ c. search needs) (λ c. search needs) (λ c. search needs) (λ c. search needs) (λ c. search needs) (λ c. search needs) (λ c. search needs) returns)

@@ -1,0 +1,214 @@
+-- The runs laid one behind the other from the first position on are the positions that the definition counts, role by role.
+use mathlib.Core.Path.{_≡_, refl, sym, ap, _∙_}
+use mathlib.Core.Bool.{cond}
+use mathlib.Core.Option.{Option, none, some}
+use mathlib.Core.List.{List}
+use Prim.Native.Nat.{ℕ, _+_, _≤_}
+use native.Mathlib.Omega.{arith}
+use lib.ListN.{length}
+use Rattle.octets.specs.Boxes.{Box, optional}
+use Rattle.panel.specs.Types.{irot-steps, imir-axis}
+use Rattle.panel.specs.Panel.{Colour, Gain, Panel}
+use Rattle.panel.specs.Items.{has, tone-of, shape, ids-from}
+use Rattle.panel.specs.Ipco
+use Rattle.panel.specs.Ipma.{positions}
+use Rattle.panel.specs.declared.Shape.{Shape}
+use Rattle.panel.specs.declared.color.Cicp.{Cicp}
+use Rattle.panel.specs.declared.metadata.ContentLightLevel.{ContentLightLevel}
+use Rattle.length.specs.Properties.{second-colr-count, alternates-count, irot-count, imir-count}
+use Rattle.length.proofs.Properties.{length-optional}
+use Rattle.places.specs.Places.{image-at, tone-at, Image-fits, Tone-fits}
+use Rattle.places.specs.declared.positions.ImagePlaces.{ImagePlaces}
+use Rattle.places.specs.declared.positions.TonePlaces.{TonePlaces}
+use Rattle.places.specs.Places.{color-at, alpha-at, options-at, Color-fits, Alpha-fits, Options-fit}
+use Rattle.places.specs.declared.pictures.ColorPlaces.{ColorPlaces}
+use Rattle.places.specs.declared.pictures.AlphaPlaces.{AlphaPlaces}
+use Rattle.places.specs.declared.pictures.OptionPlaces.{OptionPlaces}
+use Rattle.places.specs.Roles.{its-of, Placed}
+use Rattle.places.specs.declared.Places.{Places}
+
+-- all places, with c second colr, r irot, m imir, l clli, g boxes of each kind of the gain image, t of the tone map, and a alternate colours
+abbrev pub laid : ℕ → ℕ → ℕ → ℕ → ℕ → ℕ → ℕ → Places
+laid c r m l g t a =
+    let n = 9 + c + r + m + l in
+    record { color = color-at 1 1; alpha = alpha-at 6 1; options = options-at 9 c r m l; image = image-at n g; tone = tone-at (n + g + g + g + g + g) t a }
+
+-- how many boxes the definition has of each
+abbrev pub second-colrs : Panel → ℕ
+second-colrs p = length (optional "colr" (Ipco.second-colr (p .colour .cicp) (p .colour .icc)))
+
+abbrev pub irots : Panel → ℕ
+irots p = length (optional "irot" (Ipco.irot-payload (irot-steps (p .metadata .orientation))))
+
+abbrev pub imirs : Panel → ℕ
+imirs p = length (optional "imir" (Ipco.imir-payload (imir-axis (p .metadata .orientation))))
+
+abbrev pub cllis : Panel → ℕ
+cllis p = length (optional "clli" (Ipco.clli-payload (p .metadata .light)))
+
+-- alternate colours belong to a tone map
+abbrev pub alternate-colrs : Option Gain → ℕ
+alternate-colrs none = 0
+alternate-colrs (some g) = cond (has (g .tone)) (length (Ipco.alternates (g .alternate))) 0
+
+-- ---- the tone map's roles, from n on
+
+module _ (n : ℕ) (size depth : Box) where
+  ispe-toned : (t : Option (List ℕ)) (a : Option Colour) → ids-from n (cond (has t) 1 0) ≡ positions n (Ipco.tone-slots size depth t a) Ipco.ispe-tone
+  ispe-toned none a = refl
+  ispe-toned (some t) a = refl
+
+  pixi-toned : (t : Option (List ℕ)) (a : Option Colour)
+      → ids-from (n + cond (has t) 1 0) (cond (has t) 1 0) ≡ positions n (Ipco.tone-slots size depth t a) Ipco.pixi-tone
+  pixi-toned none a = refl
+  pixi-toned (some t) a = refl
+
+  colr-toned : (t : Option (List ℕ)) (a : Option Colour)
+      → ids-from (n + cond (has t) 1 0 + cond (has t) 1 0) (cond (has t) (length (Ipco.alternates a)) 0) ≡ positions n (Ipco.tone-slots size depth t a) Ipco.colr-tone
+  colr-toned none a = refl
+  colr-toned (some t) a = refl
+
+-- ---- all roles
+
+-- a panel with this gain map instead; with its own it is the panel again
+abbrev with-gain : Panel → Option Gain → Panel
+with-gain p g =
+    record { dims = p .dims; depth = p .depth; tiles = p .tiles; alpha = p .alpha; colour = p .colour; metadata = p .metadata; gain = g }
+
+in-role : (p : Panel) (g : Option Gain) (r : Ipco.Role)
+    → its-of (laid (second-colrs p) (irots p) (imirs p) (cllis p) (cond (has g) 1 0) (cond (has (tone-of g)) 1 0) (alternate-colrs g)) r ≡ positions 1 (Ipco.slots (with-gain p g)) r
+unfolding its-of
+in-role p g Ipco.hvcC-colour = refl
+in-role p g Ipco.ispe-tile = refl
+in-role p g Ipco.ispe-whole = refl
+in-role p g Ipco.colr-first = refl
+in-role p g Ipco.pixi-colour = refl
+in-role p g Ipco.hvcC-alpha = refl
+in-role p g Ipco.pixi-alpha = refl
+in-role p g Ipco.auxC-alpha = refl
+in-role p g Ipco.colr-second = refl
+in-role p g Ipco.irot = refl
+in-role p g Ipco.imir = refl
+in-role p g Ipco.clli = refl
+in-role p none Ipco.hvcC-gain = refl
+in-role p (some g) Ipco.hvcC-gain = refl
+in-role p none Ipco.ispe-gain = refl
+in-role p (some g) Ipco.ispe-gain = refl
+in-role p none Ipco.pixi-gain = refl
+in-role p (some g) Ipco.pixi-gain = refl
+in-role p none Ipco.auxC-gain = refl
+in-role p (some g) Ipco.auxC-gain = refl
+in-role p none Ipco.colr-gain = refl
+in-role p (some g) Ipco.colr-gain = refl
+in-role p none Ipco.ispe-tone = refl
+in-role p (some g) Ipco.ispe-tone = ispe-toned _ _ _ (g .tone) (g .alternate)
+in-role p none Ipco.pixi-tone = refl
+in-role p (some g) Ipco.pixi-tone = pixi-toned _ _ _ (g .tone) (g .alternate)
+in-role p none Ipco.colr-tone = refl
+in-role p (some g) Ipco.colr-tone = colr-toned _ _ _ (g .tone) (g .alternate)
+
+-- with so many of each as the definition has
+pub placed : (p : Panel) {c r m l g t a : ℕ} → c ≡ second-colrs p → r ≡ irots p → m ≡ imirs p → l ≡ cllis p → g ≡ cond (has (p .gain)) 1 0
+    → t ≡ cond (has (tone-of (p .gain))) 1 0 → a ≡ alternate-colrs (p .gain) → Placed p (laid c r m l g t a)
+placed p hc hr hm hl hg ht ha =
+    record { role = λ x. ap (λ (y : Places). its-of y x) (λ i. laid (hc i) (hr i) (hm i) (hl i) (hg i) (ht i) (ha i)) ∙ in-role p (p .gain) x }
+
+-- ---- the counts as the code has them
+
+length-second-colr : (c : Option Cicp) (i : Option (List ℕ)) → second-colr-count c i ≡ length (optional "colr" (Ipco.second-colr c i))
+length-second-colr (some c) none = refl
+length-second-colr (some c) (some i) = refl
+length-second-colr none i = refl
+
+length-clli : (l : Option ContentLightLevel) → cond (has l) 1 0 ≡ length (optional "clli" (Ipco.clli-payload l))
+length-clli none = refl
+length-clli (some l) = refl
+
+length-alternates : (a : Option Colour) → alternates-count a ≡ length (Ipco.alternates a)
+length-alternates none = refl
+length-alternates (some a) = stated (a .cicp) (a .icc)
+  where
+    stated : (c : Option Cicp) (i : Option (List ℕ)) → cond (has c) 1 0 + cond (has i) 1 0 ≡ length (Ipco.alternate-colrs c i)
+    stated (some c) none = refl
+    stated (some c) (some i) = refl
+    stated none (some i) = refl
+    stated none none = refl
+
+-- alternate colours belong to a tone map
+abbrev pub toned-alternates : Option Gain → ℕ
+toned-alternates g = elim g [ none ↦ 0 | some x ↦ cond (has (x .tone)) (alternates-count (x .alternate)) 0 ]
+
+length-toned : (g : Option Gain) → toned-alternates g ≡ alternate-colrs g
+length-toned none = refl
+length-toned (some g) = ap (λ (k : ℕ). cond {A = ℕ} (has (g .tone)) k 0) (length-alternates (g .alternate))
+
+-- the places of a panel of this shape
+abbrev pub laid-of : Panel → Shape → Places
+laid-of p s =
+    laid
+    (second-colr-count (p .colour .cicp) (p .colour .icc))
+    (irot-count (p .metadata .orientation))
+    (imir-count (p .metadata .orientation))
+    (cond (has (p .metadata .light)) 1 0)
+    (cond (s .gain) 1 0)
+    (cond (s .tone) 1 0)
+    (toned-alternates (p .gain))
+
+pub placed-of : (p : Panel) (s : Shape) (y : Places) → s ≡ shape p → y ≡ laid-of p s → Placed p y
+placed-of p s y hs hy =
+    let b = placed p
+    (length-second-colr (p .colour .cicp) (p .colour .icc))
+    (sym (length-optional "irot" (Ipco.irot-payload (irot-steps (p .metadata .orientation)))))
+    (sym (length-optional "imir" (Ipco.imir-payload (imir-axis (p .metadata .orientation)))))
+    (length-clli (p .metadata .light))
+    (ap (λ (x : Shape). cond {A = ℕ} (x .gain) 1 0) hs)
+    (ap (λ (x : Shape). cond {A = ℕ} (x .tone) 1 0) hs)
+    (length-toned (p .gain)) in
+    record { role = λ r. ap (λ (z : Places). its-of z r) hy ∙ b .role r }
+
+-- ---- they fit
+
+pub color-fits : {y : ColorPlaces} → y ≡ color-at 1 1 → Color-fits y
+color-fits e =
+    rw e (record {
+      hvcc = record { most = omega arith; few = omega arith };
+      tile = record { most = omega arith; few = omega arith };
+      full = record { most = omega arith; few = omega arith };
+      colr = record { most = omega arith; few = omega arith };
+      pixi = record { most = omega arith; few = omega arith };
+    })
+
+pub alpha-fits : {y : AlphaPlaces} → y ≡ alpha-at 6 1 → Alpha-fits y
+alpha-fits e =
+    rw e (record {
+      hvcc = record { most = omega arith; few = omega arith };
+      pixi = record { most = omega arith; few = omega arith };
+      auxc = record { most = omega arith; few = omega arith };
+    })
+
+pub options-fit : {y : OptionPlaces} {n c r m l : ℕ} → y ≡ options-at n c r m l → n + 4 ≤ 127 → c ≤ 1 → r ≤ 1 → m ≤ 1 → l ≤ 1 → Options-fit y
+options-fit e hn hc hr hm hl =
+    rw e (record {
+      colr = record { most = omega (arith, hn, hc); few = omega (arith, hc) };
+      irot = record { most = omega (arith, hn, hc, hr); few = omega (arith, hr) };
+      imir = record { most = omega (arith, hn, hc, hr, hm); few = omega (arith, hm) };
+      clli = record { most = omega (arith, hn, hc, hr, hm, hl); few = omega (arith, hl) };
+    })
+
+pub image-fits : {y : ImagePlaces} {n k : ℕ} → y ≡ image-at n k → n + 5 ≤ 127 → k ≤ 1 → Image-fits y
+image-fits e hn hk =
+    rw e (record {
+      hvcc = record { most = omega (arith, hn, hk); few = omega (arith, hk) };
+      ispe = record { most = omega (arith, hn, hk); few = omega (arith, hk) };
+      pixi = record { most = omega (arith, hn, hk); few = omega (arith, hk) };
+      auxc = record { most = omega (arith, hn, hk); few = omega (arith, hk) };
+      colr = record { most = omega (arith, hn, hk); few = omega (arith, hk) };
+    })
+
+pub tone-fits : {y : TonePlaces} {n k a : ℕ} → y ≡ tone-at n k a → n + 4 ≤ 127 → k ≤ 1 → a ≤ 2 → Tone-fits y
+tone-fits e hn hk ha =
+    rw e (record {
+      ispe = record { most = omega (arith, hn, hk); few = omega (arith, hk) };
+      pixi = record { most = omega (arith, hn, hk); few = omega (arith, hk) };
+      colr = record { most = omega (arith, hn, hk, ha); few = omega (arith, ha) };
+    })

@@ -1,0 +1,42 @@
+-- How many associations each item has, and how many bytes the entries of ipma take.
+use mathlib.Core.Bool.{cond}
+use Prim.Native.Nat.{ℕ, _+_, _*_}
+use Rattle.panel.specs.declared.Shape.{Shape}
+use Rattle.boxes.specs.declared.association.Run.{Run}
+use Rattle.places.specs.declared.pictures.ColorPlaces.{ColorPlaces}
+use Rattle.places.specs.declared.pictures.AlphaPlaces.{AlphaPlaces}
+use Rattle.places.specs.declared.pictures.OptionPlaces.{OptionPlaces}
+use Rattle.places.specs.declared.positions.ImagePlaces.{ImagePlaces}
+use Rattle.places.specs.declared.positions.TonePlaces.{TonePlaces}
+use Rattle.places.specs.declared.Places.{Places}
+
+-- of those of the colour grid's properties that may be absent
+abbrev pub option-count : OptionPlaces → ℕ
+option-count o = o .colr .count + (o .clli .count + (o .irot .count + o .imir .count))
+
+abbrev pub color-grid-count : ColorPlaces → OptionPlaces → ℕ
+color-grid-count c o = c .«ispe_full» .count + (c .colr .count + (c .pixi .count + option-count o))
+
+abbrev pub alpha-grid-count : Run → AlphaPlaces → OptionPlaces → ℕ
+alpha-grid-count full a o = full .count + (a .pixi .count + (a .auxc .count + (o .irot .count + o .imir .count)))
+
+abbrev pub image-count : ImagePlaces → Run → Run → ℕ
+image-count p irot imir = p .hvcc .count + (p .ispe .count + (p .pixi .count + (p .auxc .count + (p .colr .count + (irot .count + imir .count)))))
+
+abbrev pub tone-count : TonePlaces → ℕ
+tone-count p = p .ispe .count + (p .pixi .count + p .colr .count)
+
+-- ---- the entries of each picture: its tiles, then its grid
+
+abbrev pub color-entries-size : Shape → ColorPlaces → OptionPlaces → ℕ
+color-entries-size s c o = (3 + (c .hvcc .count + (c .«ispe_tile» .count + c .colr .count))) * s .tiles + (3 + color-grid-count c o)
+
+abbrev pub alpha-entries-size : Shape → ColorPlaces → AlphaPlaces → OptionPlaces → ℕ
+alpha-entries-size s c a o = (3 + (a .hvcc .count + c .«ispe_tile» .count)) * s .tiles + (3 + alpha-grid-count (c .«ispe_full») a o)
+
+-- how many bytes ipma takes
+abbrev pub ipma-bytes : Shape → Places → ℕ
+ipma-bytes s y =
+    16 + (color-entries-size s (y .color) (y .options)
+    + (alpha-entries-size s (y .color) (y .alpha) (y .options)
+    + (cond (s .gain) (3 + image-count (y .image) (y .options .irot) (y .options .imir)) 0 + cond (s .tone) (3 + tone-count (y .tone)) 0)))

@@ -1,0 +1,68 @@
+-- The positions of all properties, run by run: one behind the other.
+use Prim.Native.Nat.{ℕ, _+_}
+use Rattle.boxes.specs.Runs.{Fitting}
+use Rattle.boxes.specs.declared.association.Run.{Run}
+use Rattle.places.specs.declared.pictures.ColorPlaces.{ColorPlaces}
+use Rattle.places.specs.declared.pictures.AlphaPlaces.{AlphaPlaces}
+use Rattle.places.specs.declared.pictures.OptionPlaces.{OptionPlaces}
+use Rattle.places.specs.declared.positions.ImagePlaces.{ImagePlaces}
+use Rattle.places.specs.declared.positions.TonePlaces.{TonePlaces}
+
+-- so many positions from `first` on
+abbrev pub run-at : ℕ → ℕ → Run
+run-at first count = record { first = record { 0 = first }; count = count }
+
+-- ---- the panel's own properties
+
+-- from n on, with k boxes of each kind
+abbrev pub color-at : ℕ → ℕ → ColorPlaces
+color-at n k =
+    record { hvcc = run-at n k; «ispe_tile» = run-at (n + k) k; «ispe_full» = run-at (n + k + k) k; colr = run-at (n + k + k + k) k; pixi = run-at (n + k + k + k + k) k }
+
+abbrev pub alpha-at : ℕ → ℕ → AlphaPlaces
+alpha-at n k = record { hvcc = run-at n k; pixi = run-at (n + k) k; auxc = run-at (n + k + k) k }
+
+abbrev pub options-at : ℕ → ℕ → ℕ → ℕ → ℕ → OptionPlaces
+options-at n colr irot imir clli =
+    record { colr = run-at n colr; irot = run-at (n + colr) irot; imir = run-at (n + colr + irot) imir; clli = run-at (n + colr + irot + imir) clli }
+
+pub record Color-fits (c : ColorPlaces) : Type 0 where
+  pub hvcc : Fitting (c .hvcc)
+  pub tile : Fitting (c .«ispe_tile»)
+  pub full : Fitting (c .«ispe_full»)
+  pub colr : Fitting (c .colr)
+  pub pixi : Fitting (c .pixi)
+
+pub record Alpha-fits (c : AlphaPlaces) : Type 0 where
+  pub hvcc : Fitting (c .hvcc)
+  pub pixi : Fitting (c .pixi)
+  pub auxc : Fitting (c .auxc)
+
+pub record Options-fit (o : OptionPlaces) : Type 0 where
+  pub colr : Fitting (o .colr)
+  pub irot : Fitting (o .irot)
+  pub imir : Fitting (o .imir)
+  pub clli : Fitting (o .clli)
+
+-- ---- the gain map's
+
+-- of the gain image's properties, with k boxes each
+abbrev pub image-at : ℕ → ℕ → ImagePlaces
+image-at n k =
+    record { hvcc = run-at n k; ispe = run-at (n + k) k; pixi = run-at (n + k + k) k; auxc = run-at (n + k + k + k) k; colr = run-at (n + k + k + k + k) k }
+
+-- of the tone map's properties, with k boxes each and so many alternate colours
+abbrev pub tone-at : ℕ → ℕ → ℕ → TonePlaces
+tone-at n k alternates = record { ispe = run-at n k; pixi = run-at (n + k) k; colr = run-at (n + k + k) alternates }
+
+pub record Image-fits (p : ImagePlaces) : Type 0 where
+  pub hvcc : Fitting (p .hvcc)
+  pub ispe : Fitting (p .ispe)
+  pub pixi : Fitting (p .pixi)
+  pub auxc : Fitting (p .auxc)
+  pub colr : Fitting (p .colr)
+
+pub record Tone-fits (p : TonePlaces) : Type 0 where
+  pub ispe : Fitting (p .ispe)
+  pub pixi : Fitting (p .pixi)
+  pub colr : Fitting (p .colr)

@@ -1,0 +1,44 @@
+-- The positions of each role, as the code's places have them.
+use mathlib.Core.Path.{_≡_}
+use mathlib.Core.List.{List}
+use Prim.Native.Nat.{ℕ}
+use Rattle.panel.specs.Panel.{Panel}
+use Rattle.panel.specs.Ipco
+use Rattle.panel.specs.Ipma.{positions}
+use Rattle.boxes.specs.Runs.{places}
+use Rattle.places.specs.Places.{Color-fits, Alpha-fits, Options-fit, Image-fits, Tone-fits}
+use Rattle.places.specs.declared.Places.{Places}
+
+unfoldable pub its-of : Places → Ipco.Role → List ℕ
+its-of y Ipco.hvcC-colour = places (y .color .hvcc)
+its-of y Ipco.ispe-tile = places (y .color .«ispe_tile»)
+its-of y Ipco.ispe-whole = places (y .color .«ispe_full»)
+its-of y Ipco.colr-first = places (y .color .colr)
+its-of y Ipco.pixi-colour = places (y .color .pixi)
+its-of y Ipco.hvcC-alpha = places (y .alpha .hvcc)
+its-of y Ipco.pixi-alpha = places (y .alpha .pixi)
+its-of y Ipco.auxC-alpha = places (y .alpha .auxc)
+its-of y Ipco.colr-second = places (y .options .colr)
+its-of y Ipco.irot = places (y .options .irot)
+its-of y Ipco.imir = places (y .options .imir)
+its-of y Ipco.clli = places (y .options .clli)
+its-of y Ipco.hvcC-gain = places (y .image .hvcc)
+its-of y Ipco.ispe-gain = places (y .image .ispe)
+its-of y Ipco.pixi-gain = places (y .image .pixi)
+its-of y Ipco.auxC-gain = places (y .image .auxc)
+its-of y Ipco.colr-gain = places (y .image .colr)
+its-of y Ipco.ispe-tone = places (y .tone .ispe)
+its-of y Ipco.pixi-tone = places (y .tone .pixi)
+its-of y Ipco.colr-tone = places (y .tone .colr)
+
+-- they are the definition's, of a panel
+pub record Placed (p : Panel) (y : Places) : Type 0 where
+  pub role : (r : Ipco.Role) → its-of y r ≡ positions 1 (Ipco.slots p) r
+
+-- each leaves the highest bit free
+pub record Fit (y : Places) : Type 0 where
+  pub color : Color-fits (y .color)
+  pub alpha : Alpha-fits (y .alpha)
+  pub options : Options-fit (y .options)
+  pub image : Image-fits (y .image)
+  pub tone : Tone-fits (y .tone)

@@ -1,0 +1,37 @@
+-- Sums of capped numbers are capped.
+use mathlib.Core.Path.{_≡_, refl}
+use mathlib.Core.Bool.{Bool, true, false, cond}
+use Prim.Native.Nat.{ℕ, _+_, _≤_}
+use native.Mathlib.Omega.{arith}
+use Rattle.panel.specs.Panel.{Panel}
+use Rattle.panel.specs.Items.{ordinary, shape}
+use Rattle.length.specs.Properties.{ipco-size, ipma-size}
+use Rattle.length.specs.Size.{iloc-size, iinf-size, iref-size, iprp-size, grpl-size, idat-size, meta-size}
+use Rattle.sizes.specs.Capped.{Capped}
+
+infixl 20 _⊕_
+pub _⊕_ : {t a b c d : ℕ} → Capped t a b → Capped t c d → Capped t (a + c) (b + d)
+x ⊕ y = record { below = omega (arith, x .below, y .below); whole = λ h. omega (arith, x .whole (omega (arith, h)), y .whole (omega (arith, h))) }
+
+pub exact : {t k : ℕ} → Capped t k k
+exact = record { below = omega arith; whole = λ h. refl }
+
+-- the same by other names
+pub renamed : {t a b c d : ℕ} → Capped t a b → c ≡ a → b ≡ d → Capped t c d
+renamed x e f = record { below = omega (arith, x .below); whole = λ h. omega (arith, x .whole (omega (arith, h))) }
+
+-- the larger of two numbers bounds either
+pub cond-most : (b : Bool) (k n : ℕ) → n ≤ k → cond b k n ≤ k
+cond-most true k n h = omega arith
+cond-most false k n h = h
+
+-- ---- the boxes around others
+
+module _ {t : ℕ} (p : Panel) where
+  pub iprp-capped : {a b : ℕ} → Capped t a (8 + ipco-size p) → b ≡ 8 + ipma-size ordinary p → Capped t (8 + a + b) (8 + iprp-size ordinary p)
+  iprp-capped {a} {b} ipco ipma = renamed (exact {k = 8} ⊕ ipco ⊕ exact {k = b}) refl (omega arith)
+
+  pub meta-capped : {a b c d e f : ℕ} → a ≡ 8 + iloc-size ordinary (shape p) → b ≡ 8 + iinf-size ordinary (shape p) → c ≡ 8 + iref-size ordinary (shape p)
+      → Capped t d (8 + iprp-size ordinary p) → e ≡ grpl-size (shape p) → f ≡ 8 + idat-size (p .dims)
+      → Capped t (59 + a + b + c + d + e + f) (8 + meta-size ordinary p)
+  meta-capped {a} {b} {c} {d} {e} {f} iloc iinf iref iprp grpl idat = renamed (exact {k = 59 + a + b + c} ⊕ iprp ⊕ exact {k = e} ⊕ exact {k = f}) refl (omega arith)

@@ -1,0 +1,156 @@
+// The whole size of each box of a file, from lengths alone: here those of the other boxes, in properties those of ipco and ipma.
+
+pub mod lengths;
+pub mod properties;
+
+ghost use mathlib.Core.Path.{_≡_};
+ghost use Prim.Native.Nat.{_+_, _≤_};
+ghost use Rattle.panel.specs.Of.{Lent, panel-of, gain-of};
+ghost use Rattle.panel.specs.Items.{ordinary, shape};
+ghost use Rattle.panel.specs.File.{rext, gain-rext};
+ghost use Rattle.length.specs.Size.{ftyp-size, iloc-size, iinf-size, iref-size, idat-size, gain-data-size, mdat-size, size};
+ghost use Rattle.sizes.specs.Capped.{Capped, Gain-measured, Measured};
+ghost use Rattle.sizes.specs.Sized.{Sized, Small};
+use crate::lengths::GainLengths;
+use crate::lengths::Lengths;
+use crate::properties::data_size;
+use crate::properties::ipco_size;
+use crate::properties::ipma_size;
+use crate::properties::part_size;
+use boxes::ftyp::adds_heix;
+use boxes::ftyp::hvcc_uses_rext;
+use checks::shape::last_id;
+use checks::shape::when;
+use grids::descriptor_length;
+use panel::GridDims;
+use panel::Panel;
+use panel::Shape;
+use panel::gain_map::MaybeGainMap;
+
+// The whole size of each box. ipco, iprp, meta and mdat are too large for a file where a part is.
+pub struct Sizes {
+    pub ftyp: u32,
+    pub iloc: u32,
+    pub iinf: u32,
+    pub iref: u32,
+    pub ipma: u32,
+    pub idat: u32,
+    pub ipco: u64,
+    pub iprp: u64,
+    pub meta: u64,
+    pub mdat: u64,
+}
+
+// Whether there is a gain map whose record is of the range extensions' profile.
+pub fn gain_uses_rext(gain: MaybeGainMap, hvcc: &[u8]) -> bool
+    ensures { λ r. ⌜ ((l : Lent) → l .gain-hvcc ≡ now (hvcc .entry) → r ≡ gain-rext (gain-of gain l)) ⌝ }
+{
+    match gain {
+        MaybeGainMap::Some(_) => hvcc_uses_rext(hvcc),
+        MaybeGainMap::None => false,
+    }
+}
+
+// ftyp, the whole box. color and gain: the record is of the range extensions' profile.
+pub fn ftyp_size(color: bool, gain: bool, tone: bool) -> u32
+    ensures { λ r. ⌜ r ≡ 8 + ftyp-size color gain tone ⌝ }
+{
+    28 + when(adds_heix(color, gain), 4) + when(tone, 4)
+}
+
+// iloc, the whole box: an entry of 16 bytes for each item.
+pub fn iloc_size(s: Shape) -> u32
+    requires { ⌜ s .tiles ≤ 65536 ⌝ }
+    ensures { λ r. ⌜ r ≡ 8 + iloc-size ordinary s ⌝ }
+{
+    16 + 16 * last_id(s)
+}
+
+// iinf, the whole box: an entry of 21 bytes for each item, and the content type of XMP.
+pub fn iinf_size(s: Shape) -> u32
+    requires { ⌜ s .tiles ≤ 65536 ⌝ }
+    ensures { λ r. ⌜ r ≡ 8 + iinf-size ordinary s ⌝ }
+{
+    14 + 21 * last_id(s) + when(s.gain, 20)
+}
+
+// iref, the whole box: references of 12 bytes, and two for each item referred to.
+pub fn iref_size(s: Shape) -> u32
+    requires { ⌜ s .tiles ≤ 65536 ⌝ }
+    ensures { λ r. ⌜ r ≡ 8 + iref-size ordinary s ⌝ }
+{
+    50 + 4 * s.tiles + when(s.exif, 14) + when(s.gain, 28) + when(s.tone, 16)
+}
+
+// idat, the whole box: two descriptors.
+pub fn idat_size(d: GridDims) -> u32
+    ensures { λ r. ⌜ r ≡ 8 + idat-size d ⌝ }
+{
+    8 + 2 * descriptor_length(d)
+}
+
+// The payloads of the gain map, where there is one.
+pub fn gain_data_size(gain: MaybeGainMap, y: GainLengths) -> u64
+    ensures { λ r. ⌜ ((l : Lent) → Gain-measured (l .gain-hvcc) (l .gain-sample) (l .gain-xmp) (l .gain-tmap) (l .alternate-icc) y → Capped 4294967295 r (gain-data-size (gain-of gain l))) ⌝ }
+    ensures { λ r. ⌜ r ≤ 12884901885 ⌝ }
+{
+    match gain {
+        MaybeGainMap::None => 0,
+        MaybeGainMap::Some(g) => {
+            let tmap = g.tmap;
+            y.sample as u64 + y.xmp as u64 + data_size(tmap, y.tmap)
+        }
+    }
+}
+
+// mdat, the whole box.
+pub fn mdat_size(panel: Panel, y: Lengths) -> u64
+    ensures { λ r. ⌜ ((l : Lent) → Measured l y → Capped 4294967295 r (8 + mdat-size (panel-of panel l))) ⌝ }
+    ensures { λ r. ⌜ r ≤ 31000000000 ⌝ }
+{
+    let metadata = panel.metadata;
+    let exif = metadata.exif;
+    let gain = panel.gain_map;
+    let g = y.gain;
+    8
+        + y.color_samples as u64
+        + y.alpha_samples as u64
+        + part_size(exif, 4, y.exif)
+        + gain_data_size(gain, g)
+}
+
+// The size of every box. color and gain: the record is of the range extensions' profile.
+// Nine calls: one for each box whose size is worked out, and the group of a tone map.
+pub fn sizes_of(panel: Panel, s: Shape, y: Lengths, color: bool, gain: bool) -> Sizes
+    requires { ⌜ s .tiles ≤ 65536 ⌝ }
+    ensures { λ r. ⌜ ((l : Lent) → Measured l y → s ≡ shape (panel-of panel l) → color ≡ rext (l .tiles .config) → gain ≡ gain-rext (gain-of (panel .«gain_map») l) → Sized (panel-of panel l) r) ⌝ }
+    ensures { λ r. ⌜ Small r ⌝ }
+{
+    let dims = panel.dims;
+    let iloc = iloc_size(s);
+    let iinf = iinf_size(s);
+    let iref = iref_size(s);
+    let ipma = ipma_size(panel, s);
+    let idat = idat_size(dims);
+    let ipco = ipco_size(panel, y);
+    let iprp = 8 + ipco + ipma as u64;
+    let meta = 59
+        + iloc as u64
+        + iinf as u64
+        + iref as u64
+        + iprp
+        + when(s.tone, 36) as u64
+        + idat as u64;
+    Sizes {
+        ftyp: ftyp_size(color, gain, s.tone),
+        iloc,
+        iinf,
+        iref,
+        ipma,
+        idat,
+        ipco,
+        iprp,
+        meta,
+        mdat: mdat_size(panel, y),
+    }
+}
