@@ -1,0 +1,48 @@
+#!/usr/bin/env bash
+# What README.md shows is tried as written: the program in C and its commands, and the program in Rust.
+set -euo pipefail
+cd "$(dirname "$0")/.."
+
+fail() { echo "readme: $1" >&2; exit 1; }
+
+# block LANGUAGE: the README's one block in this language
+block() {
+    local fence='```' count
+    count=$(grep -cx "$fence$1" README.md || true)
+    [ "$count" = 1 ] || fail "README.md has $count blocks of $1, and one is wanted"
+    awk -v begin="$fence$1" -v end="$fence" '$0 == end { on = 0 } on { print } $0 == begin { on = 1 }' README.md
+}
+
+# prints COMMAND LINE: the command ends in this line, and README.md says so
+prints() {
+    local last
+    last=$(bash -euo pipefail -c "$1" | tail -n 1)
+    [ "$last" = "$2" ] || fail "what README.md shows prints '$last', not '$2'"
+    grep -qF "\`$2\`" README.md || fail "README.md does not say that it prints '$2'"
+}
+
+home=$PWD
+room=$(mktemp -d)
+trap 'rm -rf "$room"' EXIT
+
+# The commands are given at the root of the repository; here that root is a folder that leads to everything in it.
+mkdir "$room/root"
+for each in bindings crates crates.txt target; do ln -s "$home/$each" "$room/root/$each"; done
+block c >"$room/root/hello.c"
+commands=$(block sh)
+bindings/archive
+prints "cd '$room/root'; ${commands//bindings\/archive/true}" 'refusal 0, 556 bytes'
+
+mkdir -p "$room/rust/src"
+block rust >"$room/rust/src/main.rs"
+grep -qF 'kahopiru = { path = "bindings/rust" }' README.md || fail "README.md does not say how to depend on the crate"
+cat >"$room/rust/Cargo.toml" <<END
+[package]
+name = "hello"
+version = "0.1.0"
+edition = "2021"
+[dependencies]
+kahopiru = { path = "$home/bindings/rust" }
+END
+prints "CARGO_TARGET_DIR='$home/target/cargo' cargo run --quiet --offline --manifest-path '$room/rust/Cargo.toml'" '556 bytes'
+echo "readme: what it shows in C and in Rust prints what it says"
