@@ -37,7 +37,7 @@ pub fn write_ids(out: &mut [u8], at: usize, first: ItemId, n: u32) -> usize
     a
 }
 
-// Writes a count of items, which takes as many bits as an id.
+// Writes a count of items: in the ordinary form it takes 16 bits, as an id does.
 pub fn write_count(out: &mut [u8], at: usize, n: u32) -> usize
     requires { ⌜ at + 2 ≤ length (now out) ⌝ }
     requires { ⌜ n ≤ 65535 ⌝ }

@@ -205,7 +205,7 @@ pub fn wrap_hevc_grid_with_alpha(
                 alternate_icc,
             );
             let z = places_of(panel, y.shape);
-            let end = write_file(
+            write_file(
                 out,
                 y,
                 z,
