@@ -34,6 +34,7 @@ use crate::positions::Positions;
 use crate::positions::TonePlaces;
 use crate::positions::image_places;
 use crate::positions::tone_places;
+use octets::when;
 use panel::Panel;
 use panel::PropertyPosition;
 use panel::Shape;
@@ -48,14 +49,6 @@ pub struct Places {
     pub options: OptionPlaces,
     pub image: ImagePlaces,
     pub tone: TonePlaces,
-}
-
-// One if so, else none.
-fn one_if(b: bool) -> u8
-    ensures { λ r. ⌜ r ≡ cond b 1 0 ⌝ }
-    ensures { λ r. ⌜ r ≤ 1 ⌝ }
-{
-    if b { 1 } else { 0 }
 }
 
 // How many alternate colours stand beside a tone map.
@@ -109,8 +102,8 @@ fn gain_image(s: Shape, positions: Positions) -> PlacedImage
     ensures { λ r. ⌜ Image-fits (r .places) ⌝ }
     ensures { λ r. ⌜ r .positions .next .0 ≤ positions .next .0 + 5 ⌝ }
 {
-    let each = one_if(s.gain);
-    image_places(positions, each)
+    let each = when(s.gain, 1);
+    image_places(positions, each as u8)
 }
 
 // The places of the tone map's properties, where there is one.
@@ -119,9 +112,9 @@ fn gain_tone(gain: MaybeGainMap, s: Shape, positions: Positions) -> PlacedTone
     ensures { λ r. ⌜ ((l : Lent) → r .places ≡ tone-at (positions .next .0) (cond (s .tone) 1 0) (elim (gain-of gain l) [ none ↦ 0 | some g ↦ cond (has (g .tone)) (alternates-count (g .alternate)) 0 ])) ⌝ }
     ensures { λ r. ⌜ Tone-fits (r .places) ⌝ }
 {
-    let each = one_if(s.tone);
+    let each = when(s.tone, 1);
     let alternates = gain_alternates(gain);
-    tone_places(positions, each, alternates as u8)
+    tone_places(positions, each as u8, alternates as u8)
 }
 
 // The places of all properties: the colour picture's, alpha's, those that may be absent, the gain image's and the tone map's.

@@ -12,7 +12,7 @@ ghost use Rattle.length.specs.Properties.{first-colr-size, second-colr-size, al
 ghost use Rattle.sizes.specs.Capped.{Capped, Length-of, Measured};
 use crate::lengths::Lengths;
 use checks::shape::has_cicp;
-use checks::shape::when;
+use octets::when;
 use panel::Panel;
 use panel::Shape;
 use panel::color::ColorMetadata;
