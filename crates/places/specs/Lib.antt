@@ -1,3 +1,4 @@
 pub mod Places
 pub mod Counts
+pub mod Alternates
 pub mod Roles
