@@ -17,10 +17,9 @@ use Rattle.panel.specs.declared.color.Cicp.{Cicp}
 use Rattle.panel.specs.declared.metadata.ContentLightLevel.{ContentLightLevel}
 use Rattle.length.specs.Properties.{second-colr-count, alternates-count, irot-count, imir-count}
 use Rattle.length.proofs.Properties.{length-optional}
-use Rattle.places.specs.Places.{image-at, tone-at, Image-fits, Tone-fits}
+use Rattle.places.specs.Places.{image-at, tone-at, Image-fits, Tone-fits, color-at, alpha-at, options-at, Color-fits, Alpha-fits, Options-fit}
 use Rattle.places.specs.declared.positions.ImagePlaces.{ImagePlaces}
 use Rattle.places.specs.declared.positions.TonePlaces.{TonePlaces}
-use Rattle.places.specs.Places.{color-at, alpha-at, options-at, Color-fits, Alpha-fits, Options-fit}
 use Rattle.places.specs.declared.pictures.ColorPlaces.{ColorPlaces}
 use Rattle.places.specs.declared.pictures.AlphaPlaces.{AlphaPlaces}
 use Rattle.places.specs.declared.pictures.OptionPlaces.{OptionPlaces}

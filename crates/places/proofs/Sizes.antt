@@ -17,7 +17,7 @@ use Rattle.panel.proofs.Ids.{length-ids-from}
 use Rattle.length.specs.Properties.{ipma-size}
 use Rattle.length.proofs.Properties.{length-ipma}
 use Rattle.boxes.specs.Runs.{places}
-use Rattle.boxes.proofs.Marks.{length-places, length-essential}
+use Rattle.boxes.proofs.Marks.{length-essential}
 use Rattle.places.specs.Counts.{ipma-bytes}
 use Rattle.places.specs.Lists.{color-grid-list, alpha-grid-list, image-list, tone-list, color-entries, alpha-entries}
 use Rattle.places.specs.Roles.{its-of, Placed}

@@ -1,8 +1,8 @@
 -- What each item is associated with: the entries of ipma, by the runs of positions.
 use mathlib.Core.List.{List, [], _∷_}
-use Prim.Native.Nat.{ℕ, _+_}
+use Prim.Native.Nat.{ℕ}
 use Rattle.octets.specs.Numbers.{_‖_}
-use Rattle.panel.specs.Items.{given, gain-id, colour-grid, alpha-tile, alpha-grid}
+use Rattle.panel.specs.Items.{colour-grid, alpha-tile, alpha-grid}
 use Rattle.panel.specs.Ipma.{Association, _with_, each, essential}
 use Rattle.panel.specs.declared.Shape.{Shape}
 use Rattle.boxes.specs.Runs.{places}

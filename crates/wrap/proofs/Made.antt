@@ -13,7 +13,7 @@ use Rattle.panel.specs.Items.{ordinary, given, has, listed, tone-of, shape, exi
 use Rattle.panel.specs.Iloc.{Location, descriptor, extents, located, locations}
 use Rattle.panel.specs.Ipco.{slots, ipco}
 use Rattle.panel.specs.Ipma.{positions, associations, ipma}
-use Rattle.panel.specs.File.{gain-rext, ftyp, head, grpl, idat, meta, mdat, data-at, file}
+use Rattle.panel.specs.File.{ftyp, head, grpl, idat, meta, mdat, data-at, file}
 use Rattle.panel.specs.Refusal.{refusal}
 use Rattle.panel.specs.declared.Panel.{Panel as Numbers}
 use Rattle.panel.specs.declared.color.Part.{Part}

@@ -1,18 +1,18 @@
 -- What an accepted panel's layout and places give to the writers of its three boxes.
 use mathlib.Core.Path.{_≡_, refl, sym, ap, _∙_}
-use mathlib.Core.Bool.{Bool, true, false, cond}
+use mathlib.Core.Bool.{true}
 use mathlib.Core.Option.{Option, none, some}
-use mathlib.Core.List.{List, [], _∷_, _++_, flatMap}
-use Prim.Native.Nat.{ℕ, _+_, _*_, _≤_, _<_}
+use mathlib.Core.List.{List}
+use Prim.Native.Nat.{ℕ, _+_, _≤_, _<_}
 use native.Mathlib.Omega.{arith}
-use lib.ListN.{length, length-append}
-use Rattle.octets.specs.Numbers.{_‖_, total}
+use lib.ListN.{length}
+use Rattle.octets.specs.Numbers.{total}
 use Rattle.panel.specs.Panel.{Tiles, Panel, Gain}
 use Rattle.panel.specs.Of.{Lent, panel-of, part}
-use Rattle.panel.specs.Items.{ordinary, given, has, tone-of, shape, ids-from, gain-id, colour-grid, alpha-tile, alpha-grid}
+use Rattle.panel.specs.Items.{ordinary, has, tone-of, shape}
 use Rattle.panel.specs.Ipco
 use Rattle.panel.specs.Ipco.{slots, ipco}
-use Rattle.panel.specs.Ipma.{Association, _with_, each, essential, positions, associations, association, ipma}
+use Rattle.panel.specs.Ipma.{positions, associations, ipma}
 use Rattle.panel.specs.File.{rext, gain-rext, data-at, file, iprp}
 use Rattle.panel.specs.Refusal.{last-id, refusal}
 use Rattle.panel.specs.declared.Panel.{Panel as Numbers}
@@ -24,7 +24,7 @@ use Rattle.length.specs.Size.{iloc-size, iinf-size, iref-size, mdat-size, size}
 use Rattle.length.proofs.Boxes.{length-iloc, length-iinf, length-iref}
 use Rattle.length.proofs.Properties.{length-ipco, length-ipma}
 use Rattle.length.proofs.File.{length-head, length-iprp, length-idat, length-meta, length-mdat, data-at-size, length-file, even-accepted}
-use Rattle.boxes.specs.Runs.{places, Shaped}
+use Rattle.boxes.specs.Runs.{Shaped}
 use Rattle.grids.specs.Descriptors.{Sided}
 use Rattle.boxes.specs.Sizes.{ftyp-size}
 use Rattle.gain_map.specs.Data.{gain-data-size}

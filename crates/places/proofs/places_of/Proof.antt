@@ -4,8 +4,7 @@ use mathlib.Core.Path.{_≡_, ap, _∙_}
 use mathlib.Core.Bool.{cond}
 use Prim.Native.Nat.{ℕ, _+_}
 use Rattle.places.proofs.Roles.{placed-of, color-fits, alpha-fits}
-use Rattle.places.specs.Places.{alpha-at, options-at}
-use Rattle.places.specs.Places.{image-at, tone-at}
+use Rattle.places.specs.Places.{alpha-at, options-at, image-at, tone-at}
 use Rattle.length.specs.Properties.{second-colr-count, irot-count, imir-count}
 use Rattle.panel.specs.Of.{Lent, panel-of}
 use Rattle.panel.specs.Items.{has, shape}
