@@ -1,6 +1,5 @@
 // Item ids, made from the shape of the file, and written by a leaf of their own.
 ghost use mathlib.Core.Path.{_≡_};
-ghost use mathlib.Core.Bool.{cond};
 ghost use Prim.Native.Nat.{_+_, _*_, _≤_};
 ghost use lib.ListN.{length};
 ghost use mathlib.Core.List.{flatMap};
@@ -9,6 +8,7 @@ ghost use Rattle.octets.specs.Stores.{Wrote};
 ghost use Rattle.panel.specs.Items.{ids-from, colour-grid, alpha-tile, alpha-grid, exif-id, gain-id};
 ghost use Rattle.panel.specs.Refusal.{last-id};
 use octets::w16;
+use octets::when;
 use panel::ItemId;
 use panel::Shape;
 
@@ -37,20 +37,13 @@ pub fn write_ids(out: &mut [u8], at: usize, first: ItemId, n: u32) -> usize
     a
 }
 
-// Writes a count of items, which takes as many bits as an id.
+// Writes a count of items: in the ordinary form it takes 16 bits, as an id does.
 pub fn write_count(out: &mut [u8], at: usize, n: u32) -> usize
     requires { ⌜ at + 2 ≤ length (now out) ⌝ }
     requires { ⌜ n ≤ 65535 ⌝ }
     ensures { λ r. ⌜ Wrote (now (out .entry)) at 2 (be 2 n) (now (out .exit)) r ⌝ }
 {
     w16(out, at, n as u16)
-}
-
-// 1 for yes, 0 for no.
-pub fn count_of(b: bool) -> u32
-    ensures { λ r. ⌜ r ≡ cond b 1 0 ⌝ }
-{
-    if b { 1 } else { 0 }
 }
 
 // The id that stands k behind another.
@@ -96,7 +89,7 @@ pub fn gain_number(s: Shape) -> u32
     requires { ⌜ last-id s ≤ 65535 ⌝ }
     ensures { λ r. ⌜ r ≡ gain-id s ⌝ }
 {
-    exif_number(s) + count_of(s.exif)
+    exif_number(s) + when(s.exif, 1)
 }
 
 // A number as an id.

@@ -8,12 +8,12 @@ ghost use Rattle.octets.specs.Boxes.{full};
 ghost use Rattle.octets.specs.Stores.{Boxed};
 ghost use Rattle.panel.specs.Items.{ordinary};
 ghost use Rattle.panel.specs.Iinf.{tile-infes};
-use crate::ids::count_of;
 use crate::ids::write_id;
 use crate::property::size_of;
 use octets::put;
 use octets::w8;
 use octets::w16;
+use octets::when;
 use octets::write_fullbox;
 use panel::ItemId;
 
@@ -36,7 +36,7 @@ pub fn write_infe(
         size_of(21, content_type.len()),
         b"infe",
         2,
-        count_of(hidden),
+        when(hidden, 1),
     );
     let b = write_id(out, a, id);
     let c = w16(out, b, 0);

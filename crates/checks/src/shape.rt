@@ -1,12 +1,12 @@
 // Which items a file has, and which parts are present.
 ghost use mathlib.Core.Path.{_≡_};
 ghost use mathlib.Core.List.{List};
-ghost use mathlib.Core.Bool.{cond};
 ghost use Prim.Native.Nat.{ℕ, _≤_};
 ghost use lib.ListN.{length};
 ghost use Rattle.panel.specs.Of.{Lent, panel-of, part, cicp-of, gain-of};
 ghost use Rattle.panel.specs.Items.{has, tone-of, shape};
 ghost use Rattle.panel.specs.Refusal.{last-id};
+use octets::when;
 use panel::Panel;
 use panel::Shape;
 use panel::color::MaybeCicp;
@@ -70,14 +70,6 @@ pub fn shape_of(panel: Panel, tiles: u32) -> Shape
         gain: has_gain(gain),
         tone: has_tone(gain),
     }
-}
-
-// A number if so, else 0.
-pub fn when(b: bool, n: u32) -> u32
-    ensures { λ r. ⌜ r ≡ cond b n 0 ⌝ }
-    ensures { λ r. ⌜ r ≤ n ⌝ }
-{
-    if b { n } else { 0 }
 }
 
 // The last item id, which check 4 wants to fit in 16 bits.

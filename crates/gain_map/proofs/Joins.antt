@@ -1,23 +1,16 @@
--- The gain map's entries in iloc and ipma: the tone map's stand behind those of the gain image, and are absent without a gain map.
+-- The gain map's entries in iloc: the tone map's stand behind those of the gain image, and are absent without a gain map.
 use mathlib.Core.Path.{_≡_, refl, sym, _∙_}
 use mathlib.Core.Bool.{Bool, true, false}
 use mathlib.Core.List.{[], _∷_, _++_, flatMap}
 use Prim.Native.Nat.{ℕ, _+_}
 use native.Mathlib.Omega.{arith}
-use lib.ListN.{length, length-append}
 use Rattle.octets.specs.Numbers.{_‖_}
 use Rattle.panel.specs.Items.{ordinary, given, gain-id}
 use Rattle.panel.specs.Iloc.{entry, located}
 use Rattle.panel.specs.declared.Shape.{Shape}
 use Rattle.locations.specs.Spans.{spans}
 use Rattle.boxes.specs.Runs.{Shaped}
-use Rattle.boxes.specs.declared.association.Run.{Run}
 use Rattle.locations.proofs.Spans.{entries-append}
-use Rattle.boxes.proofs.Marks.{length-places, length-essential}
-use Rattle.places.specs.Counts.{image-count, tone-count}
-use Rattle.gain_map.specs.Lists.{image-list, tone-list}
-use Rattle.places.specs.declared.positions.ImagePlaces.{ImagePlaces}
-use Rattle.places.specs.declared.positions.TonePlaces.{TonePlaces}
 
 pub tone-behind : (s : Shape) (o a b t : ℕ)
     → flatMap (entry ordinary) (located (gain-id s) 0 (spans o (a ∷ b ∷ []))) ++ flatMap (entry ordinary) (located (gain-id s + 2) 0 (spans (o + a + b) (given (s .tone) (t ∷ []))))
@@ -30,11 +23,3 @@ tone-absent s h e = go (s .tone) (h .toned)
     go : (b : Bool) → (b ≡ true → s .gain ≡ true) → b ≡ false
     go true k = absurd (let f : false ≡ true = sym e ∙ k refl in let z : _≡_ {A = ℕ} 0 1 = cc in omega arith)
     go false k = refl
-
--- ---- how many associations there are
-
-pub length-image-list : (p : ImagePlaces) (irot imir : Run) → length (image-list p irot imir) ≡ image-count p irot imir
-length-image-list p irot imir = simp (length-append, length-essential, length-places)
-
-pub length-tone-list : (p : TonePlaces) → length (tone-list p) ≡ tone-count p
-length-tone-list p = simp (length-append, length-places)

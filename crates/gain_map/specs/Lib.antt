@@ -1,4 +1,3 @@
-pub mod Lists
 pub mod Sizes
 pub mod Data
 pub mod Properties

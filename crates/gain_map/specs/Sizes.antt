@@ -4,8 +4,8 @@ use Prim.Native.Nat.{ℕ}
 use Rattle.octets.specs.Numbers.{_‖_}
 use Rattle.panel.specs.Items.{given}
 use Rattle.panel.specs.declared.Shape.{Shape}
-use Rattle.gain_map.specs.declared.location.GainLengths.{GainLengths}
+use Rattle.gain_map.specs.declared.location.PayloadLengths.{PayloadLengths}
 
 -- of those that are present
-abbrev pub sizes : Shape → GainLengths → List ℕ
+abbrev pub sizes : Shape → PayloadLengths → List ℕ
 sizes s l = given (s .gain) (l .sample ∷ l .xmp ∷ []) ‖ given (s .tone) (l .tmap ∷ [])

@@ -10,7 +10,7 @@ ghost use Rattle.panel.specs.Ipma.{_with_, association};
 ghost use Rattle.boxes.specs.Runs.{Fitting, Shaped};
 ghost use Rattle.places.specs.Places.{Image-fits, Tone-fits};
 ghost use Rattle.places.specs.Counts.{image-count, tone-count};
-ghost use Rattle.gain_map.specs.Lists.{image-list, tone-list};
+ghost use Rattle.places.specs.Lists.{image-list, tone-list};
 use boxes::association::Run;
 use boxes::association::write_association_head;
 use boxes::association::write_run;

@@ -17,7 +17,7 @@ use locations::write_location;
 use panel::Shape;
 
 // The lengths of the gain map's payloads: the sample, the XMP and the tone map, 0 where there is none.
-pub struct GainLengths {
+pub struct PayloadLengths {
     pub sample: u32,
     pub xmp: u32,
     pub tmap: u32,
@@ -58,7 +58,13 @@ fn write_image_locations(
 }
 
 // The gain map's entries, whose payloads lie back to back from `offset` on.
-pub fn write_iloc(out: &mut [u8], at: usize, s: Shape, offset: u32, lengths: GainLengths) -> usize
+pub fn write_iloc(
+    out: &mut [u8],
+    at: usize,
+    s: Shape,
+    offset: u32,
+    lengths: PayloadLengths,
+) -> usize
     requires { ⌜ at + (cond (s .gain) 32 0 + cond (s .tone) 16 0) ≤ length (now out) ⌝ }
     requires { ⌜ Shaped s ⌝ }
     requires { ⌜ offset + (lengths .sample + lengths .xmp) < 4294967296 ⌝ }

@@ -5,7 +5,7 @@ ghost use Rattle.octets.specs.Stores.{Wrote};
 ghost use Rattle.boxes.specs.Runs.{Fitting};
 ghost use Rattle.places.specs.Places.{Color-fits, Alpha-fits, Options-fit};
 ghost use Rattle.places.specs.Counts.{option-count, color-grid-count, alpha-grid-count};
-ghost use Rattle.grid_lists.specs.Lists.{option-list, color-grid-list, alpha-grid-list};
+ghost use Rattle.places.specs.Lists.{option-list, color-grid-list, alpha-grid-list};
 use boxes::association::Run;
 use boxes::association::write_run;
 use boxes::association::write_turns;

@@ -20,12 +20,12 @@ use Rattle.length.specs.Size.{iloc-size}
 use Rattle.locations.specs.Spans.{spans, location}
 use Rattle.locations.proofs.Spans.{entries-append, length-spans}
 use Rattle.gain_map.specs.Sizes.{sizes}
-use Rattle.gain_map.specs.declared.location.GainLengths.{GainLengths}
+use Rattle.gain_map.specs.declared.location.PayloadLengths.{PayloadLengths}
 use Rattle.isobmff.specs.Locations.{other-sizes, placed}
 
 -- ---- with Exif and without
 
-pub exif-first : (s : Shape) (o e : ℕ) (g : GainLengths) → s .exif ≡ true
+pub exif-first : (s : Shape) (o e : ℕ) (g : PayloadLengths) → s .exif ≡ true
     → entry ordinary (location (exif-id s) 0 o e) ++ flatMap (entry ordinary) (located (gain-id s) 0 (spans (o + e) (sizes s g)))
     ≡ flatMap (entry ordinary) (located (exif-id s) 0 (spans o (other-sizes s e g)))
 unfolding spans flatMap
@@ -34,7 +34,7 @@ exif-first s o e g h =
     let b : o + e ≡ o + (e + 0) = omega arith in
     entries-append ordinary (exif-id s) o (e ∷ []) (sizes s g) j b ∙ ap (λ (x : Bool). flatMap (entry ordinary) (located (exif-id s) 0 (spans o (given x (e ∷ []) ++ sizes s g)))) (sym h)
 
-pub exif-absent : (s : Shape) (o e : ℕ) (g : GainLengths) → s .exif ≡ false
+pub exif-absent : (s : Shape) (o e : ℕ) (g : PayloadLengths) → s .exif ≡ false
     → flatMap (entry ordinary) (located (gain-id s) 0 (spans o (sizes s g))) ≡ flatMap (entry ordinary) (located (exif-id s) 0 (spans o (other-sizes s e g)))
 exif-absent s o e g h =
     let j : gain-id s ≡ exif-id s = ap (λ (b : Bool). exif-id s + cond b 1 0) h ∙ add-zero (exif-id s) in
@@ -42,7 +42,7 @@ exif-absent s o e g h =
 
 -- ---- how many
 
-pub length-other-sizes : (s : Shape) (e : ℕ) (g : GainLengths) → length (other-sizes s e g) ≡ cond (s .exif) 1 0 + (cond (s .gain) 2 0 + cond (s .tone) 1 0)
+pub length-other-sizes : (s : Shape) (e : ℕ) (g : PayloadLengths) → length (other-sizes s e g) ≡ cond (s .exif) 1 0 + (cond (s .gain) 2 0 + cond (s .tone) 1 0)
 length-other-sizes s e g = simp (length-append, length-given)
 
 -- the entries' bytes, by part

@@ -7,10 +7,10 @@ use Rattle.panel.specs.Iloc.{Location, located}
 use Rattle.panel.specs.declared.Shape.{Shape}
 use Rattle.locations.specs.Spans.{spans}
 use Rattle.gain_map.specs.Sizes.{sizes}
-use Rattle.gain_map.specs.declared.location.GainLengths.{GainLengths}
+use Rattle.gain_map.specs.declared.location.PayloadLengths.{PayloadLengths}
 
 -- the sizes of the payloads behind the alpha samples, where an Exif payload has e bytes
-abbrev pub other-sizes : Shape → ℕ → GainLengths → List ℕ
+abbrev pub other-sizes : Shape → ℕ → PayloadLengths → List ℕ
 other-sizes s e g = given (s .exif) (e ∷ []) ‖ sizes s g
 
 abbrev pub placed : Shape → ℕ → ℕ → ℕ → ℕ → List ℕ → List ℕ → List ℕ → List Location

@@ -1,4 +1,4 @@
-// The sections of the file, in file order, and the positions of its properties.
+// The sections of the file, in file order.
 
 pub mod location;
 pub mod meta;

@@ -18,7 +18,7 @@ use boxes::ids::alpha_tile_base;
 use boxes::ids::color_grid_id;
 use boxes::ids::write_count;
 use checks::shape::last_id;
-use gain_map::location::GainLengths;
+use gain_map::location::PayloadLengths;
 use items::exif_id;
 use locations::write_location;
 use locations::write_tile_locations;
@@ -75,7 +75,7 @@ fn write_exif_locations(
     s: Shape,
     offset: u32,
     exif: u32,
-    gain: GainLengths,
+    gain: PayloadLengths,
 ) -> usize
     requires { ⌜ at + (16 + (cond (s .gain) 32 0 + cond (s .tone) 16 0)) ≤ length (now out) ⌝ }
     requires { ⌜ Shaped s ⌝ }
@@ -95,7 +95,7 @@ fn write_other_locations(
     s: Shape,
     offset: u32,
     exif: u32,
-    gain: GainLengths,
+    gain: PayloadLengths,
 ) -> usize
     requires { ⌜ at + (cond (s .exif) 16 0 + (cond (s .gain) 32 0 + cond (s .tone) 16 0)) ≤ length (now out) ⌝ }
     requires { ⌜ Shaped s ⌝ }
@@ -135,7 +135,7 @@ pub fn write_iloc(
     descriptor: u32,
     offsets: Offsets,
     exif: u32,
-    gain: GainLengths,
+    gain: PayloadLengths,
     color_lengths: &[u32],
     alpha_lengths: &[u32],
 ) -> usize

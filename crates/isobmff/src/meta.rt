@@ -21,7 +21,7 @@ use crate::property::write_ipco;
 use boxes::ids::color_grid_id;
 use boxes::meta::write_hdlr;
 use boxes::meta::write_pitm;
-use gain_map::location::GainLengths;
+use gain_map::location::PayloadLengths;
 use grids::write_descriptor;
 use ipma::write_ipma;
 use items::write_iinf;
@@ -53,7 +53,7 @@ pub fn write_item_boxes(
     at: usize,
     y: Layout,
     exif: u32,
-    gain: GainLengths,
+    gain: PayloadLengths,
     color_lengths: &[u32],
     alpha_lengths: &[u32],
 ) -> usize
@@ -179,7 +179,7 @@ pub fn write_meta(
     z: Places,
     panel: Panel,
     exif: u32,
-    gain: GainLengths,
+    gain: PayloadLengths,
     color_hvcc: &[u8],
     alpha_hvcc: &[u8],
     color_lengths: &[u32],

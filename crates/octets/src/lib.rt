@@ -2,6 +2,8 @@
 //
 // Each function takes a position and answers the one behind what it wrote. specs/ holds the definitions of numbers, boxes and
 // writes, and proofs/ their laws, once for all crates.
+ghost use mathlib.Core.Path.{_≡_};
+ghost use mathlib.Core.Bool.{cond};
 ghost use mathlib.Core.List.{_++_};
 ghost use Prim.Native.Nat.{_+_, _≤_};
 ghost use lib.ListN.{length};
@@ -73,4 +75,12 @@ pub fn write_fullbox(
     let b = w8(out, a, ver);
     let c = w8(out, b, (flags / 65536 % 256) as u8);
     w16(out, c, (flags % 65536) as u16)
+}
+
+// A number if so, else 0.
+pub fn when(b: bool, n: u32) -> u32
+    ensures { λ r. ⌜ r ≡ cond b n 0 ⌝ }
+    ensures { λ r. ⌜ r ≤ n ⌝ }
+{
+    if b { n } else { 0 }
 }

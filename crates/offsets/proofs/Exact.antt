@@ -15,7 +15,7 @@ use Rattle.panel.specs.File.{head, iprp, idat, meta, mdat, data-at, file}
 use Rattle.panel.proofs.Accepted.{Accepted}
 use Rattle.length.specs.Parts.{Even}
 use Rattle.length.specs.Properties.{ipco-size}
-use Rattle.length.specs.Size.{iprp-size, meta-size, mdat-size, size}
+use Rattle.length.specs.Size.{iprp-size, meta-size, mdat-size}
 use Rattle.length.proofs.Boxes.{length-iloc, length-iinf, length-iref}
 use Rattle.length.proofs.Properties.{length-ipco, length-ipma}
 use Rattle.length.proofs.File.{length-head, length-iprp, length-idat, length-meta, length-mdat, data-at-size, length-file, even-accepted}

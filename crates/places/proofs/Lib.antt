@@ -1,1 +1,4 @@
 pub mod Roles
+pub mod Lengths
+pub mod Entries
+pub mod Sizes

@@ -17,13 +17,13 @@ use Rattle.panel.specs.declared.color.Cicp.{Cicp}
 use Rattle.panel.specs.declared.metadata.ContentLightLevel.{ContentLightLevel}
 use Rattle.length.specs.Properties.{second-colr-count, alternates-count, irot-count, imir-count}
 use Rattle.length.proofs.Properties.{length-optional}
-use Rattle.places.specs.Places.{image-at, tone-at, Image-fits, Tone-fits}
+use Rattle.places.specs.Places.{image-at, tone-at, Image-fits, Tone-fits, color-at, alpha-at, options-at, Color-fits, Alpha-fits, Options-fit}
 use Rattle.places.specs.declared.positions.ImagePlaces.{ImagePlaces}
 use Rattle.places.specs.declared.positions.TonePlaces.{TonePlaces}
-use Rattle.places.specs.Places.{color-at, alpha-at, options-at, Color-fits, Alpha-fits, Options-fit}
 use Rattle.places.specs.declared.pictures.ColorPlaces.{ColorPlaces}
 use Rattle.places.specs.declared.pictures.AlphaPlaces.{AlphaPlaces}
 use Rattle.places.specs.declared.pictures.OptionPlaces.{OptionPlaces}
+use Rattle.places.specs.Alternates.{toned-alternates}
 use Rattle.places.specs.Roles.{its-of, Placed}
 use Rattle.places.specs.declared.Places.{Places}
 
@@ -133,10 +133,6 @@ length-alternates (some a) = stated (a .cicp) (a .icc)
     stated (some c) (some i) = refl
     stated none (some i) = refl
     stated none none = refl
-
--- alternate colours belong to a tone map
-abbrev pub toned-alternates : Option Gain → ℕ
-toned-alternates g = elim g [ none ↦ 0 | some x ↦ cond (has (x .tone)) (alternates-count (x .alternate)) 0 ]
 
 length-toned : (g : Option Gain) → toned-alternates g ≡ alternate-colrs g
 length-toned none = refl

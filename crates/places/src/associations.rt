@@ -1,15 +1,19 @@
-// How many properties each grid, the gain image and the tone map are associated with.
+// How many properties each item is associated with, and how many bytes ipma takes for them.
 ghost use mathlib.Core.Path.{_≡_};
-ghost use Prim.Native.Nat.{_+_};
-ghost use Rattle.places.specs.Counts.{color-grid-count, alpha-grid-count, image-count, tone-count};
+ghost use Prim.Native.Nat.{_+_, _≤_};
+ghost use Rattle.places.specs.Counts.{color-grid-count, alpha-grid-count, image-count, tone-count, color-entries-size, alpha-entries-size, ipma-bytes};
+ghost use Rattle.places.specs.Roles.{Fit};
 ghost use Rattle.boxes.specs.Runs.{Fitting};
 ghost use Rattle.places.specs.Places.{Color-fits, Alpha-fits, Options-fit, Image-fits, Tone-fits};
+use crate::Places;
 use crate::pictures::AlphaPlaces;
 use crate::pictures::ColorPlaces;
 use crate::pictures::OptionPlaces;
 use crate::positions::ImagePlaces;
 use crate::positions::TonePlaces;
 use boxes::association::Run;
+use octets::when;
+use panel::Shape;
 
 // How many properties the colour grid has.
 pub fn color_grid_count(c: ColorPlaces, o: OptionPlaces) -> u8
@@ -67,4 +71,58 @@ pub fn tone_count(p: TonePlaces) -> u8
     let pixi = p.pixi;
     let colr = p.colr;
     ispe.count + (pixi.count + colr.count)
+}
+
+// How many bytes the entries of the colour picture take: its tiles and its grid.
+fn color_entries_size(s: Shape, c: ColorPlaces, o: OptionPlaces) -> u32
+    requires { ⌜ s .tiles ≤ 65536 ⌝ }
+    requires { ⌜ Color-fits c ⌝ }
+    requires { ⌜ Options-fit o ⌝ }
+    ensures { λ r. ⌜ r ≡ color-entries-size s c o ⌝ }
+    ensures { λ r. ⌜ r ≤ 590000 ⌝ }
+{
+    let hvcc = c.hvcc;
+    let tile = c.ispe_tile;
+    let colr = c.colr;
+    let each = 3 + (hvcc.count + (tile.count + colr.count));
+    let grid = 3 + color_grid_count(c, o);
+    each as u32 * s.tiles + grid as u32
+}
+
+// How many bytes the entries of the alpha picture take: its tiles and its grid.
+fn alpha_entries_size(s: Shape, c: ColorPlaces, a: AlphaPlaces, o: OptionPlaces) -> u32
+    requires { ⌜ s .tiles ≤ 65536 ⌝ }
+    requires { ⌜ Color-fits c ⌝ }
+    requires { ⌜ Alpha-fits a ⌝ }
+    requires { ⌜ Options-fit o ⌝ }
+    ensures { λ r. ⌜ r ≡ alpha-entries-size s c a o ⌝ }
+    ensures { λ r. ⌜ r ≤ 460000 ⌝ }
+{
+    let hvcc = a.hvcc;
+    let tile = c.ispe_tile;
+    let full = c.ispe_full;
+    let each = 3 + (hvcc.count + tile.count);
+    let grid = 3 + alpha_grid_count(full, a, o);
+    each as u32 * s.tiles + grid as u32
+}
+
+// ipma, the whole box.
+pub fn ipma_bytes(s: Shape, y: Places) -> u32
+    requires { ⌜ s .tiles ≤ 65536 ⌝ }
+    requires { ⌜ Fit y ⌝ }
+    ensures { λ r. ⌜ r ≡ ipma-bytes s y ⌝ }
+    ensures { λ r. ⌜ r ≤ 1100000 ⌝ }
+{
+    let color = y.color;
+    let alpha = y.alpha;
+    let options = y.options;
+    let image = y.image;
+    let tone = y.tone;
+    let irot = options.irot;
+    let imir = options.imir;
+    let colors = color_entries_size(s, color, options);
+    let alphas = alpha_entries_size(s, color, alpha, options);
+    let images = when(s.gain, 3 + image_count(image, irot, imir) as u32);
+    let tones = when(s.tone, 3 + tone_count(tone) as u32);
+    16 + (colors + (alphas + (images + tones)))
 }

@@ -8,7 +8,7 @@ ghost use Rattle.panel.specs.Items.{has};
 ghost use Rattle.length.specs.Properties.{second-colr-count, alternates-count, irot-count, imir-count};
 use checks::shape::has_cicp;
 use checks::shape::is_present;
-use checks::shape::when;
+use octets::when;
 use panel::color::ColorMetadata;
 use panel::color::MaybeCicp;
 use panel::color::MaybeColorMetadata;

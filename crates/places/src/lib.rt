@@ -11,9 +11,9 @@ ghost use mathlib.Core.List.{List};
 ghost use Prim.Native.Nat.{ℕ, _+_, _≤_};
 ghost use Rattle.panel.specs.Items.{has, shape};
 ghost use Rattle.length.specs.Properties.{second-colr-count, alternates-count, irot-count, imir-count};
+ghost use Rattle.places.specs.Alternates.{toned-alternates};
 ghost use Rattle.places.specs.Roles.{Placed, Fit};
 ghost use Rattle.places.specs.Places.{options-at, Options-fit, image-at, tone-at, Image-fits, Tone-fits};
-ghost use mathlib.Core.Option.{none, some};
 ghost use Rattle.panel.specs.Of.{Lent, panel-of, part, cicp-of, light-of, alternate-of, gain-of};
 use crate::counts::alternate_count;
 use crate::counts::imir_count;
@@ -34,6 +34,7 @@ use crate::positions::Positions;
 use crate::positions::TonePlaces;
 use crate::positions::image_places;
 use crate::positions::tone_places;
+use octets::when;
 use panel::Panel;
 use panel::PropertyPosition;
 use panel::Shape;
@@ -50,14 +51,6 @@ pub struct Places {
     pub tone: TonePlaces,
 }
 
-// One if so, else none.
-fn one_if(b: bool) -> u8
-    ensures { λ r. ⌜ r ≡ cond b 1 0 ⌝ }
-    ensures { λ r. ⌜ r ≤ 1 ⌝ }
-{
-    if b { 1 } else { 0 }
-}
-
 // How many alternate colours stand beside a tone map.
 fn tone_alternates(tmap: Part, alternate: MaybeColorMetadata) -> u32
     ensures { λ r. ⌜ ((t x : List ℕ) → r ≡ cond (has (part tmap t)) (alternates-count (alternate-of alternate x)) 0) ⌝ }
@@ -71,7 +64,7 @@ fn tone_alternates(tmap: Part, alternate: MaybeColorMetadata) -> u32
 
 // How many alternate colours a gain map has beside its tone map.
 fn gain_alternates(gain: MaybeGainMap) -> u32
-    ensures { λ r. ⌜ ((l : Lent) → r ≡ elim (gain-of gain l) [ none ↦ 0 | some g ↦ cond (has (g .tone)) (alternates-count (g .alternate)) 0 ]) ⌝ }
+    ensures { λ r. ⌜ ((l : Lent) → r ≡ toned-alternates (gain-of gain l)) ⌝ }
     ensures { λ r. ⌜ r ≤ 2 ⌝ }
 {
     match gain {
@@ -109,19 +102,19 @@ fn gain_image(s: Shape, positions: Positions) -> PlacedImage
     ensures { λ r. ⌜ Image-fits (r .places) ⌝ }
     ensures { λ r. ⌜ r .positions .next .0 ≤ positions .next .0 + 5 ⌝ }
 {
-    let each = one_if(s.gain);
-    image_places(positions, each)
+    let each = when(s.gain, 1);
+    image_places(positions, each as u8)
 }
 
 // The places of the tone map's properties, where there is one.
 fn gain_tone(gain: MaybeGainMap, s: Shape, positions: Positions) -> PlacedTone
     requires { ⌜ positions .next .0 + 4 ≤ 127 ⌝ }
-    ensures { λ r. ⌜ ((l : Lent) → r .places ≡ tone-at (positions .next .0) (cond (s .tone) 1 0) (elim (gain-of gain l) [ none ↦ 0 | some g ↦ cond (has (g .tone)) (alternates-count (g .alternate)) 0 ])) ⌝ }
+    ensures { λ r. ⌜ ((l : Lent) → r .places ≡ tone-at (positions .next .0) (cond (s .tone) 1 0) (toned-alternates (gain-of gain l))) ⌝ }
     ensures { λ r. ⌜ Tone-fits (r .places) ⌝ }
 {
-    let each = one_if(s.tone);
+    let each = when(s.tone, 1);
     let alternates = gain_alternates(gain);
-    tone_places(positions, each, alternates as u8)
+    tone_places(positions, each as u8, alternates as u8)
 }
 
 // The places of all properties: the colour picture's, alpha's, those that may be absent, the gain image's and the tone map's.

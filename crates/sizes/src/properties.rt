@@ -1,4 +1,4 @@
-// The sizes of ipco and ipma: how many properties there are, how long, and how many each item has.
+// The sizes of ipco and ipma: how long the properties are, and how many each item has.
 ghost use mathlib.Core.Path.{_≡_};
 ghost use mathlib.Core.Bool.{cond};
 ghost use mathlib.Core.Option.{none};
@@ -8,11 +8,11 @@ ghost use lib.ListN.{length};
 ghost use Rattle.panel.specs.Of.{Lent, panel-of, part, cicp-of, light-of, alternate-of, gain-of};
 ghost use Rattle.panel.specs.Items.{ordinary, has, shape};
 ghost use Rattle.length.specs.Parts.{long};
-ghost use Rattle.length.specs.Properties.{first-colr-size, second-colr-size, alternates-count, alternates-size, irot-count, imir-count, gain-properties-size, ipco-size, pictures, gain-association-count, association-count, ipma-size};
+ghost use Rattle.length.specs.Properties.{first-colr-size, second-colr-size, alternates-size, irot-count, imir-count, gain-properties-size, ipco-size, pictures, ipma-size};
 ghost use Rattle.sizes.specs.Capped.{Capped, Length-of, Measured};
 use crate::lengths::Lengths;
 use checks::shape::has_cicp;
-use checks::shape::when;
+use octets::when;
 use panel::Panel;
 use panel::Shape;
 use panel::color::ColorMetadata;
@@ -21,11 +21,11 @@ use panel::color::MaybeColorMetadata;
 use panel::color::Part;
 use panel::gain_map::MaybeGainMap;
 use panel::metadata::Metadata;
-use places::counts::alternate_count;
+use places::associations::ipma_bytes;
 use places::counts::imir_count;
 use places::counts::irot_count;
 use places::counts::light_count;
-use places::counts::secondary_colr_count;
+use places::places_of;
 
 // ---- irot, imir, clli and colr
 
@@ -132,17 +132,6 @@ pub fn tone_properties_size(tmap: Part, alternate: MaybeColorMetadata, icc: u32)
     }
 }
 
-// How many properties the tone map has.
-pub fn tone_association_count(tmap: Part, alternate: MaybeColorMetadata) -> u32
-    ensures { λ r. ⌜ ((t x : List ℕ) → r ≡ cond (has (part tmap t)) (2 + alternates-count (alternate-of alternate x)) 0) ⌝ }
-    ensures { λ r. ⌜ r ≤ 4 ⌝ }
-{
-    match tmap {
-        Part::Absent => 0,
-        Part::Present => 2 + alternate_count(alternate),
-    }
-}
-
 // The properties of the gain map, where there is one.
 pub fn gain_properties_size(gain: MaybeGainMap, hvcc: u32, icc: u32) -> u64
     ensures { λ r. ⌜ ((l : Lent) → Length-of (l .gain-hvcc) hvcc → Length-of (l .alternate-icc) icc → Capped 4294967295 r (gain-properties-size (gain-of gain l))) ⌝ }
@@ -154,22 +143,6 @@ pub fn gain_properties_size(gain: MaybeGainMap, hvcc: u32, icc: u32) -> u64
             let tmap = g.tmap;
             let alternate = g.alternate_color;
             113 + hvcc as u64 + tone_properties_size(tmap, alternate, icc)
-        }
-    }
-}
-
-// How many properties the gain image and the tone map have, where so many are transforms.
-pub fn gain_association_count(gain: MaybeGainMap, turns: u32) -> u32
-    requires { ⌜ turns ≤ 2 ⌝ }
-    ensures { λ r. ⌜ ((l : Lent) → r ≡ gain-association-count turns (gain-of gain l)) ⌝ }
-    ensures { λ r. ⌜ r ≤ 11 ⌝ }
-{
-    match gain {
-        MaybeGainMap::None => 0,
-        MaybeGainMap::Some(g) => {
-            let tmap = g.tmap;
-            let alternate = g.alternate_color;
-            5 + turns + tone_association_count(tmap, alternate)
         }
     }
 }
@@ -194,26 +167,6 @@ pub fn ipco_size(panel: Panel, y: Lengths) -> u64
         + gain_properties_size(gain, g.hvcc, g.icc)
 }
 
-// How many properties all items have.
-pub fn association_count(panel: Panel, tiles: u32) -> u32
-    requires { ⌜ tiles ≤ 65536 ⌝ }
-    ensures { λ r. ⌜ ((l : Lent) → tiles ≡ length (l .tiles .lengths) → r ≡ association-count (panel-of panel l)) ⌝ }
-    ensures { λ r. ⌜ r ≤ 330000 ⌝ }
-{
-    let color = panel.color_meta;
-    let metadata = panel.metadata;
-    let o = metadata.orientation;
-    let light = metadata.content_light_level;
-    let gain = panel.gain_map;
-    let turns = irot_count(o) + imir_count(o);
-    5 * tiles
-        + 6
-        + secondary_colr_count(color)
-        + light_count(light)
-        + 2 * turns
-        + gain_association_count(gain, turns)
-}
-
 // How many items ipma names: the tiles, the grids, the gain image and the tone map.
 pub fn picture_count(s: Shape) -> u32
     requires { ⌜ s .tiles ≤ 65536 ⌝ }
@@ -223,10 +176,10 @@ pub fn picture_count(s: Shape) -> u32
     2 * s.tiles + 2 + when(s.gain, 1) + when(s.tone, 1)
 }
 
-// ipma, the whole box.
+// ipma, the whole box, from the runs of the properties' positions.
 pub fn ipma_size(panel: Panel, s: Shape) -> u32
     requires { ⌜ s .tiles ≤ 65536 ⌝ }
     ensures { λ r. ⌜ ((l : Lent) → s ≡ shape (panel-of panel l) → r ≡ 8 + ipma-size ordinary (panel-of panel l)) ⌝ }
 {
-    16 + 3 * picture_count(s) + association_count(panel, s.tiles)
+    ipma_bytes(s, places_of(panel, s))
 }

@@ -13,7 +13,7 @@ use Rattle.panel.specs.Items.{ordinary, given, has, listed, tone-of, shape, exi
 use Rattle.panel.specs.Iloc.{Location, descriptor, extents, located, locations}
 use Rattle.panel.specs.Ipco.{slots, ipco}
 use Rattle.panel.specs.Ipma.{positions, associations, ipma}
-use Rattle.panel.specs.File.{gain-rext, ftyp, head, grpl, idat, meta, mdat, data-at, file}
+use Rattle.panel.specs.File.{ftyp, head, grpl, idat, meta, mdat, data-at, file}
 use Rattle.panel.specs.Refusal.{refusal}
 use Rattle.panel.specs.declared.Panel.{Panel as Numbers}
 use Rattle.panel.specs.declared.color.Part.{Part}
@@ -25,7 +25,7 @@ use Rattle.length.specs.Parts.{Even}
 use Rattle.locations.specs.Spans.{spans}
 use Rattle.locations.proofs.Spans.{extents-spans}
 use Rattle.gain_map.specs.Data.{long, gain-data}
-use Rattle.gain_map.specs.declared.location.GainLengths.{GainLengths}
+use Rattle.gain_map.specs.declared.location.PayloadLengths.{PayloadLengths}
 use Rattle.offsets.specs.Laid.{Laid}
 use Rattle.offsets.specs.declared.Layout.{Layout}
 use Rattle.isobmff.specs.Locations.{other-sizes, placed}
@@ -141,7 +141,7 @@ module _ (n : Numbers) (l : Lent) (y : Layout) (z : Places) (ok : refusal ordina
   made-file = λ i. boxes (made-head i ∷ made-meta i ∷ made-mdat i ∷ [])
 
   -- with sizes that are said to be those of what is lent
-  pub made-file-of : {x : ℕ} {g : GainLengths} → x ≡ exif-size (part (n .metadata .exif) (l .exif)) → g ≡ gain-lengths (n .«gain_map») (l .gain-sample) (l .gain-xmp) (l .gain-tmap)
+  pub made-file-of : {x : ℕ} {g : PayloadLengths} → x ≡ exif-size (part (n .metadata .exif) (l .exif)) → g ≡ gain-lengths (n .«gain_map») (l .gain-sample) (l .gain-xmp) (l .gain-tmap)
       → boxes (
       ftyp (y .«color_rext») (y .«gain_rext») (y .shape .tone)
       ∷ full "meta" 0 0 (boxes (

@@ -1,25 +1,22 @@
 -- What an accepted panel's layout and places give to the writers of its three boxes.
 use mathlib.Core.Path.{_≡_, refl, sym, ap, _∙_}
-use mathlib.Core.Bool.{Bool, true, false, cond}
+use mathlib.Core.Bool.{true}
 use mathlib.Core.Option.{Option, none, some}
-use mathlib.Core.List.{List, [], _∷_, _++_, flatMap}
-use Prim.Native.Nat.{ℕ, _+_, _*_, _≤_, _<_}
-use native.Mathlib.Nat.{mul-comm}
+use mathlib.Core.List.{List}
+use Prim.Native.Nat.{ℕ, _+_, _≤_, _<_}
 use native.Mathlib.Omega.{arith}
-use lib.ListN.{length, length-append}
-use Rattle.octets.specs.Numbers.{_‖_, total}
-use Rattle.octets.proofs.Lists.{flatMap-map, flatMap-one, flatMap-append, length-flatMap}
+use lib.ListN.{length}
+use Rattle.octets.specs.Numbers.{total}
 use Rattle.panel.specs.Panel.{Tiles, Panel, Gain}
 use Rattle.panel.specs.Of.{Lent, panel-of, part}
-use Rattle.panel.specs.Items.{ordinary, given, has, tone-of, shape, ids-from, gain-id, colour-grid, alpha-tile, alpha-grid}
+use Rattle.panel.specs.Items.{ordinary, has, tone-of, shape}
 use Rattle.panel.specs.Ipco
 use Rattle.panel.specs.Ipco.{slots, ipco}
-use Rattle.panel.specs.Ipma.{Association, _with_, each, essential, positions, associations, association, ipma}
+use Rattle.panel.specs.Ipma.{positions, associations, ipma}
 use Rattle.panel.specs.File.{rext, gain-rext, data-at, file, iprp}
 use Rattle.panel.specs.Refusal.{last-id, refusal}
 use Rattle.panel.specs.declared.Panel.{Panel as Numbers}
 use Rattle.panel.specs.declared.Shape.{Shape}
-use Rattle.panel.proofs.Ids.{length-ids-from}
 use Rattle.panel.proofs.Accepted.{Accepted, accepted}
 use Rattle.length.specs.Parts.{Even}
 use Rattle.length.specs.Properties.{ipma-size}
@@ -27,77 +24,22 @@ use Rattle.length.specs.Size.{iloc-size, iinf-size, iref-size, mdat-size, size}
 use Rattle.length.proofs.Boxes.{length-iloc, length-iinf, length-iref}
 use Rattle.length.proofs.Properties.{length-ipco, length-ipma}
 use Rattle.length.proofs.File.{length-head, length-iprp, length-idat, length-meta, length-mdat, data-at-size, length-file, even-accepted}
-use Rattle.boxes.specs.Runs.{places, Shaped}
+use Rattle.boxes.specs.Runs.{Shaped}
 use Rattle.grids.specs.Descriptors.{Sided}
 use Rattle.boxes.specs.Sizes.{ftyp-size}
-use Rattle.boxes.proofs.Marks.{length-places, length-essential}
-use Rattle.gain_map.specs.Lists.{image-list, tone-list}
-use Rattle.places.specs.Counts.{image-count, tone-count}
 use Rattle.gain_map.specs.Data.{gain-data-size}
 use Rattle.offsets.specs.Laid.{Laid}
 use Rattle.offsets.specs.declared.Layout.{Layout}
 use Rattle.isobmff.specs.Parts.{lent-props, exif-size}
-use Rattle.grid_lists.specs.Lists.{color-grid-list, alpha-grid-list}
-use Rattle.ipma.specs.Entries.{color-entries, alpha-entries}
 use Rattle.places.specs.Roles.{its-of, Placed}
 use Rattle.places.specs.Counts.{ipma-bytes}
 use Rattle.isobmff.specs.Sections.{item-boxes-size, Item-sizes, iprp-bytes, idat-bytes, property-boxes-size, Property-sizes}
 use Rattle.places.specs.declared.Places.{Places}
-use Rattle.grid_lists.proofs.Counts.{length-color-grid-list, length-alpha-grid-list}
-use Rattle.ipma.proofs.Associations.{gain-entries, entries-joined}
+use Rattle.places.proofs.Sizes.{associated-alike, ipma-by-runs}
 use Rattle.panel.specs.declared.gain_map.MaybeGainMap.{MaybeGainMap}
 use Rattle.panel.specs.declared.gain_map.MaybeGainMap.the-variants as G
 use Rattle.wrap.specs.Gains.{gain-lengths}
 use Rattle.isobmff.proofs.Parts.{ipco-size-parts, mdat-sum}
-
--- ---- ipma
-
-long-one : (id : ℕ) (l : List ℕ) {k : ℕ} → length l ≡ k → length (association ordinary (id with l)) ≡ 3 + k
-long-one id l h = omega (arith, h)
-
-long-last : (id : ℕ) (l : List ℕ) {k : ℕ} → length l ≡ k → length (flatMap (association ordinary) ((id with l) ∷ [])) ≡ 3 + k
-long-last id l h = ap length (flatMap-one (association ordinary) (id with l)) ∙ long-one id l h
-
-long-each : (first n : ℕ) (l : List ℕ) {k : ℕ} → length l ≡ k → length (flatMap (association ordinary) (each first n l)) ≡ (3 + k) * n
-long-each first n l {k} h =
-    ap length (flatMap-map (association ordinary) (λ id. id with l) (ids-from first n))
-    ∙ length-flatMap (λ id. association ordinary (id with l)) (3 + k) (λ id. long-one id l h) (ids-from first n)
-    ∙ ap (λ (m : ℕ). m * (3 + k)) (length-ids-from first n)
-    ∙ mul-comm n (3 + k)
-
-long-given : (b : Bool) (id : ℕ) (l : List ℕ) {k : ℕ} → length l ≡ k → length (flatMap (association ordinary) (given b ((id with l) ∷ []))) ≡ cond b (3 + k) 0
-unfolding flatMap
-long-given true id l h = long-last id l h
-long-given false id l h = refl
-
--- entries behind entries
-long-both : (x y : List Association) {m n : ℕ} → length (flatMap (association ordinary) x) ≡ m → length (flatMap (association ordinary) y) ≡ n
-    → length (flatMap (association ordinary) (x ++ y)) ≡ m + n
-long-both x y h k =
-    ap length (flatMap-append (association ordinary) x y) ∙ length-append (flatMap (association ordinary) x) (flatMap (association ordinary) y) ∙ (λ i. h i + k i)
-
-pub ipma-long : (s : Shape) (z : Places) → 8 + length (ipma ordinary (associations s (its-of z)) .body) ≡ ipma-bytes s z
-ipma-long s z =
-    let c = z .color in
-    let a = z .alpha in
-    let o = z .options in
-    let colors = long-both (each 1 (s .tiles) (essential (places (c .hvcc)) ‖ essential (places (c .«ispe_tile»)) ‖ essential (places (c .colr)))) ((colour-grid s with color-grid-list c o) ∷ [])
-    (long-each 1 (s .tiles) (essential (places (c .hvcc)) ‖ essential (places (c .«ispe_tile»)) ‖ essential (places (c .colr))) {k = c .hvcc .count + (c .«ispe_tile» .count + c .colr .count)} (simp (length-append, length-essential)))
-    (long-last (colour-grid s) (color-grid-list c o) (length-color-grid-list c o)) in
-    let alphas = long-both (each (alpha-tile s) (s .tiles) (essential (places (a .hvcc)) ‖ essential (places (c .«ispe_tile»)))) ((alpha-grid s with alpha-grid-list (c .«ispe_full») a o) ∷ [])
-    (long-each (alpha-tile s) (s .tiles) (essential (places (a .hvcc)) ‖ essential (places (c .«ispe_tile»))) {k = a .hvcc .count + c .«ispe_tile» .count} (simp (length-append, length-essential)))
-    (long-last (alpha-grid s) (alpha-grid-list (c .«ispe_full») a o) (length-alpha-grid-list (c .«ispe_full») a o)) in
-    let image = image-list (z .image) (o .irot) (o .imir) in
-    let gains = long-both (given (s .gain) ((gain-id s with image) ∷ [])) (given (s .tone) ((gain-id s + 2 with tone-list (z .tone)) ∷ []))
-    (long-given (s .gain) (gain-id s) image {k = image-count (z .image) (o .irot) (o .imir)} (simp (length-append, length-essential, length-places)))
-    (long-given (s .tone) (gain-id s + 2) (tone-list (z .tone)) {k = tone-count (z .tone)} (simp (length-append, length-places))) in
-    let x = flatMap (association ordinary) (color-entries s c o) in
-    let y = flatMap (association ordinary) (alpha-entries s c a o) in
-    let w = flatMap (association ordinary) (gain-entries s z) in
-    let joined : length x + (length y + length w) ≡ length (flatMap (association ordinary) (associations s (its-of z)))
-    = (λ i. length x + sym (length-append y w) i) ∙ sym (length-append x (y ++ w)) ∙ ap length (entries-joined s z) in
-    let head : 8 + length (ipma ordinary (associations s (its-of z)) .body) ≡ 16 + length (flatMap (association ordinary) (associations s (its-of z))) = omega arith in
-    head ∙ ap (λ (k : ℕ). 16 + k) (sym joined ∙ (λ i. colors i + (alphas i + gains i)))
 
 -- ---- what is lent, read off the panel
 
@@ -169,11 +111,10 @@ module _ (n : Numbers) (l : Lent) where
         }
 
     pub same-associations : associations (shape p) (its-of z) ≡ associations (shape p) (positions 1 (slots p))
-    same-associations = ap (associations (shape p)) (λ i r. f .role r i)
+    same-associations = associated-alike p z f
 
     its-ipma : 8 + ipma-size ordinary p ≡ ipma-bytes (shape p) z
-    its-ipma =
-        ap (λ (k : ℕ). 8 + k) (sym (length-ipma ordinary p)) ∙ ap (λ (a : List Association). 8 + length (ipma ordinary a .body)) (sym same-associations) ∙ ipma-long (shape p) z
+    its-ipma = ipma-by-runs p z f
 
     pub property-sizes : Property-sizes q y z (n .dims)
     property-sizes =

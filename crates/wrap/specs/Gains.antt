@@ -6,8 +6,8 @@ use Rattle.panel.specs.Of.{part}
 use Rattle.panel.specs.declared.gain_map.MaybeGainMap.{MaybeGainMap}
 use Rattle.panel.specs.declared.gain_map.MaybeGainMap.the-variants as G
 use Rattle.gain_map.specs.Data.{long}
-use Rattle.gain_map.specs.declared.location.GainLengths.{GainLengths}
+use Rattle.gain_map.specs.declared.location.PayloadLengths.{PayloadLengths}
 
-abbrev pub gain-lengths : MaybeGainMap → List ℕ → List ℕ → List ℕ → GainLengths
+abbrev pub gain-lengths : MaybeGainMap → List ℕ → List ℕ → List ℕ → PayloadLengths
 gain-lengths G.None sample xmp tone = record { sample = 0; xmp = 0; tmap = 0 }
 gain-lengths (G.Some g) sample xmp tone = record { sample = length sample; xmp = length xmp; tmap = long (part (g .tmap) tone) }

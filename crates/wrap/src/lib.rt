@@ -16,7 +16,7 @@ ghost use Rattle.isobmff.specs.Parts.{exif-size};
 ghost use Rattle.places.specs.Roles.{Placed, Fit};
 ghost use Rattle.wrap.specs.Gains.{gain-lengths};
 use boxes::ftyp::write_ftyp;
-use gain_map::location::GainLengths;
+use gain_map::location::PayloadLengths;
 use isobmff::meta::write_meta;
 use isobmff::payload::write_mdat;
 use layout::file_length;
@@ -54,12 +54,12 @@ fn tone_length(present: Part, tmap: &[u8]) -> u32
 }
 
 // The lengths of the gain map's payloads, 0 where it is absent.
-fn gain_parts(gain: MaybeGainMap, sample: &[u8], xmp: &[u8], tmap: &[u8]) -> GainLengths
+fn gain_parts(gain: MaybeGainMap, sample: &[u8], xmp: &[u8], tmap: &[u8]) -> PayloadLengths
     requires { ⌜ gain-data-size gain (now sample) (now xmp) (now tmap) < 4294967296 ⌝ }
     ensures { λ r. ⌜ r ≡ gain-lengths gain (now (sample .entry)) (now (xmp .entry)) (now (tmap .entry)) ⌝ }
 {
     match gain {
-        MaybeGainMap::None => GainLengths {
+        MaybeGainMap::None => PayloadLengths {
             sample: 0,
             xmp: 0,
             tmap: 0,
@@ -67,7 +67,7 @@ fn gain_parts(gain: MaybeGainMap, sample: &[u8], xmp: &[u8], tmap: &[u8]) -> Gai
         MaybeGainMap::Some(g) => {
             let present = g.tmap;
             let tone = tone_length(present, tmap);
-            GainLengths {
+            PayloadLengths {
                 sample: sample.len() as u32,
                 xmp: xmp.len() as u32,
                 tmap: tone,
@@ -205,7 +205,7 @@ pub fn wrap_hevc_grid_with_alpha(
                 alternate_icc,
             );
             let z = places_of(panel, y.shape);
-            let end = write_file(
+            write_file(
                 out,
                 y,
                 z,

@@ -4,7 +4,7 @@ use native.Mathlib.Omega.{arith}
 use mathlib.Core.Path.{refl, sym, ap, _∙_}
 use Rattle.octets.proofs.Stores.{_▹_, kept, told, full-boxed, retold}
 use Rattle.octets.specs.Numbers.{be}
-use Rattle.ipma.proofs.Associations.{entries-joined}
+use Rattle.places.proofs.Entries.{entries-joined}
 use Rattle.length.proofs.Items.{length-associations}
 use Rattle.places.specs.Roles.{its-of}
 use Rattle.ipma.proofs.write_ipma.Statement.{statement}

@@ -5,7 +5,6 @@ use Rattle.octets.proofs.Stores.{retold, _▸_}
 use Prim.Native.Nat.{ℕ}
 use mathlib.Core.List.{[], _∷_}
 use Rattle.panel.specs.Items.{ordinary}
-use Rattle.panel.specs.Iinf.{infe}
 use Rattle.panel.specs.Iinf.{infe, tile-infes}
 use Rattle.items.proofs.write_alpha_infes.Statement.{statement}
 use Rattle.items.proofs.write_alpha_infes.Tie as tie

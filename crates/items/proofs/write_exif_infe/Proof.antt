@@ -6,7 +6,7 @@ use Rattle.octets.proofs.Stores.{retold, no-boxes}
 use mathlib.Core.Bool.{Bool, cond}
 use Prim.Native.Nat.{ℕ}
 use mathlib.Core.List.{[], _∷_}
-use Rattle.panel.specs.Items.{ordinary, exif-id}
+use Rattle.panel.specs.Items.{ordinary}
 use Rattle.panel.specs.Iinf.{infe}
 use Rattle.items.proofs.write_exif_infe.Statement.{statement}
 use Rattle.items.proofs.write_exif_infe.Tie as tie

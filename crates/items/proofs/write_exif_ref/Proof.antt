@@ -7,7 +7,6 @@ use mathlib.Core.Bool.{Bool, cond}
 use Prim.Native.Nat.{ℕ}
 use Rattle.octets.specs.Numbers.{_‖_, be}
 use mathlib.Core.List.{[], _∷_, flatMap}
-use Rattle.panel.specs.Items.{exif-id}
 use Rattle.octets.specs.Boxes.{box}
 use Rattle.items.proofs.write_exif_ref.Statement.{statement}
 use Rattle.items.proofs.write_exif_ref.Tie as tie

@@ -11,7 +11,6 @@ use Rattle.panel.specs.Items.{ordinary, colour-grid, alpha-grid, alpha-tile}
 use Rattle.octets.proofs.Lists.{cond-mul}
 use Rattle.boxes.proofs.Pictures.{pictures-joined}
 use Rattle.length.proofs.Items.{length-infes}
-use Rattle.panel.specs.Iinf.{infe}
 use Rattle.panel.specs.Iinf.{infe, tile-infes}
 use Rattle.length.specs.Size.{iinf-size}
 use Rattle.items.proofs.write_iinf.Statement.{statement}

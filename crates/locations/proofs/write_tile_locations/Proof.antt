@@ -2,9 +2,8 @@
 use native.Mathlib.Omega.{arith}
 use mathlib.Core.Path.{_≡_, refl}
 use Prim.Native.Nat.{ℕ, _+_, _*_, _-_, _≤_}
-use lib.ListN.{length}
-use mathlib.Core.List.{List, flatMap}
 use lib.ListN.{length, drop}
+use mathlib.Core.List.{List, flatMap}
 use lib.Seq.{drop-length}
 use Rattle.octets.specs.Numbers.{total}
 use Rattle.octets.proofs.Stores.{Owes, owes, turn, paid}

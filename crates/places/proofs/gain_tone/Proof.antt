@@ -13,7 +13,7 @@ returns c =
     let c1 = c2 .before in
     let start = c1 .before in
     let n = start .args .positions .next .0 in
-    (λ l. (c3 .tone-places .ensures) .0 ∙ (λ i. tone-at n ((c1 .one-if .ensures) .0 i) ((c2 .gain-alternates .ensures) .0 l i)), tone-fits ((c3 .tone-places .ensures) .0) (start .pre) ((c1 .one-if .ensures) .1) ((c2 .gain-alternates .ensures) .1))
+    (λ l. (c3 .tone-places .ensures) .0 ∙ (λ i. tone-at n ((c1 .when .ensures) .0 i) ((c2 .gain-alternates .ensures) .0 l i)), tone-fits ((c3 .tone-places .ensures) .0) (start .pre) ((c1 .when .ensures) .1) ((c2 .gain-alternates .ensures) .1))
 
 pub gain-tone-spec : {M : Type 1} → statement M
-gain-tone-spec = tie.close (tie.spec (λ c κs. search needs) (λ c κs. search needs) (λ c. search needs) (λ c κs. search needs) returns)
+gain-tone-spec = tie.close (tie.spec (λ c κs. search needs) (λ c κs. search needs) (λ c. search needs) (λ c. search needs) (λ c κs. search needs) returns)

@@ -3,12 +3,12 @@ use borrow.Author.Needs.{needs}
 use mathlib.Core.Path.{_≡_, ap, _∙_}
 use mathlib.Core.Bool.{cond}
 use Prim.Native.Nat.{ℕ, _+_}
-use Rattle.places.proofs.Roles.{placed-of, toned-alternates, color-fits, alpha-fits}
-use Rattle.places.specs.Places.{alpha-at, options-at}
-use Rattle.places.specs.Places.{image-at, tone-at}
+use Rattle.places.proofs.Roles.{placed-of, color-fits, alpha-fits}
+use Rattle.places.specs.Places.{alpha-at, options-at, image-at, tone-at}
 use Rattle.length.specs.Properties.{second-colr-count, irot-count, imir-count}
 use Rattle.panel.specs.Of.{Lent, panel-of}
 use Rattle.panel.specs.Items.{has, shape}
+use Rattle.places.specs.Alternates.{toned-alternates}
 use Rattle.places.specs.Roles.{Placed}
 use Rattle.places.proofs.places_of.Statement.{statement}
 use Rattle.places.proofs.places_of.Tie as tie

@@ -5,7 +5,7 @@ use Rattle.octets.proofs.Stores.{kept, told, _▸_}
 use Rattle.layout.specs.Lent.{lent}
 use Rattle.wrap.proofs.Ready.{shaped, sided, item-sizes, property-sizes, meta-sum, ftyp-sum, mdat-whole, mdat-short, color-count, alpha-count, color-end, alpha-end, other-end, file-sum}
 use Rattle.wrap.proofs.Made.{made-file-of}
-use Rattle.gain_map.specs.declared.location.GainLengths.{GainLengths}
+use Rattle.gain_map.specs.declared.location.PayloadLengths.{PayloadLengths}
 use Rattle.wrap.proofs.write_file.Statement.{statement}
 use Rattle.wrap.proofs.write_file.Tie as tie
 
@@ -47,7 +47,7 @@ write-meta-requires c κs =
     let c2 = c3 .before in
     let c1 = c2 .before in
     let start = c1 .before .before .before .before .before .before .before .before .before .before .before .before .before .before .before .before .before in
-    (omega (arith, file-sum _ _ _ _ (start .pre .0) (start .pre .1 .0) (start .pre .1 .1 .0), start .pre .1 .1 .1 .1, (c4 .write-ftyp .ensures) .wrote .end, kept ((c4 .write-ftyp .ensures) .wrote)), (item-sizes _ _ _ _ (start .pre .0) (start .pre .1 .0) (start .pre .1 .1 .0), (property-sizes _ _ _ _ (start .pre .0) (start .pre .1 .0) (start .pre .1 .1 .0), (start .pre .1 .1 .1 .0, ((c1 .picture-count .ensures) .0, (sided _ _ _ _ (start .pre .0) (start .pre .1 .0) (start .pre .1 .1 .0), (meta-sum _ _ _ _ (start .pre .0) (start .pre .1 .0) (start .pre .1 .1 .0), (color-count _ _ _ _ (start .pre .0) (start .pre .1 .0) (start .pre .1 .1 .0), (alpha-count _ _ _ _ (start .pre .0) (start .pre .1 .0) (start .pre .1 .1 .0), (color-end _ _ _ _ (start .pre .0) (start .pre .1 .0) (start .pre .1 .1 .0), (alpha-end _ _ _ _ (start .pre .0) (start .pre .1 .0) (start .pre .1 .1 .0), omega (arith, other-end _ _ _ _ (start .pre .0) (start .pre .1 .0) (start .pre .1 .1 .0), (c2 .exif-length .ensures), ap (λ (g : GainLengths). g .sample) (c3 .gain-parts .ensures), ap (λ (g : GainLengths). g .xmp) (c3 .gain-parts .ensures)))))))))))))
+    (omega (arith, file-sum _ _ _ _ (start .pre .0) (start .pre .1 .0) (start .pre .1 .1 .0), start .pre .1 .1 .1 .1, (c4 .write-ftyp .ensures) .wrote .end, kept ((c4 .write-ftyp .ensures) .wrote)), (item-sizes _ _ _ _ (start .pre .0) (start .pre .1 .0) (start .pre .1 .1 .0), (property-sizes _ _ _ _ (start .pre .0) (start .pre .1 .0) (start .pre .1 .1 .0), (start .pre .1 .1 .1 .0, ((c1 .picture-count .ensures) .0, (sided _ _ _ _ (start .pre .0) (start .pre .1 .0) (start .pre .1 .1 .0), (meta-sum _ _ _ _ (start .pre .0) (start .pre .1 .0) (start .pre .1 .1 .0), (color-count _ _ _ _ (start .pre .0) (start .pre .1 .0) (start .pre .1 .1 .0), (alpha-count _ _ _ _ (start .pre .0) (start .pre .1 .0) (start .pre .1 .1 .0), (color-end _ _ _ _ (start .pre .0) (start .pre .1 .0) (start .pre .1 .1 .0), (alpha-end _ _ _ _ (start .pre .0) (start .pre .1 .0) (start .pre .1 .1 .0), omega (arith, other-end _ _ _ _ (start .pre .0) (start .pre .1 .0) (start .pre .1 .1 .0), (c2 .exif-length .ensures), ap (λ (g : PayloadLengths). g .sample) (c3 .gain-parts .ensures), ap (λ (g : PayloadLengths). g .xmp) (c3 .gain-parts .ensures)))))))))))))
 
 write-mdat-requires : tie.Need-write-mdat-requires
 unfolding lent

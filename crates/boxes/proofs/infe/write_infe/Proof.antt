@@ -18,7 +18,7 @@ returns c =
     let c3 = c4 .before .before .before .before in
     let c2 = c3 .before in
     let c1 = c2 .before .before in
-    retold (full-boxed "infe" 2 _ (told (c3 .write-fullbox .ensures) (ap (λ (k : ℕ). be 4 (c1 .size-of .result) ‖ text "infe" ‖ be 1 2 ‖ be 3 k) (c2 .count-of .ensures)) refl) ((c4 .write-id .ensures) ▹ (c5 .w16 .ensures) ▹ (c6 .put .ensures) ▹ (c7 .w8 .ensures) ▹ (c8 .put2 .ensures)) (omega (arith, (c1 .size-of .ensures)))) refl (omega arith)
+    retold (full-boxed "infe" 2 _ (told (c3 .write-fullbox .ensures) (ap (λ (k : ℕ). be 4 (c1 .size-of .result) ‖ text "infe" ‖ be 1 2 ‖ be 3 k) (c2 .when .ensures .0)) refl) ((c4 .write-id .ensures) ▹ (c5 .w16 .ensures) ▹ (c6 .put .ensures) ▹ (c7 .w8 .ensures) ▹ (c8 .put2 .ensures)) (omega (arith, (c1 .size-of .ensures)))) refl (omega arith)
 
 pub write-infe-spec : {M : Type 1} → statement M
 write-infe-spec = tie.close (tie.spec (λ c κs. search needs) (λ c κs. search needs) (λ c κs. search needs) (λ c κs. search needs) (λ c κs. search needs) (λ c κs. search needs) (λ c κs. search needs) (λ c κs. search needs) (λ c. search needs) returns)

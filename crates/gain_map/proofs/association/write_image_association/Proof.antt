@@ -7,8 +7,8 @@ use mathlib.Core.Bool.{Bool, cond}
 use Prim.Native.Nat.{ℕ, _+_}
 use mathlib.Core.List.{flatMap}
 use Rattle.places.specs.Counts.{image-count}
-use Rattle.gain_map.specs.Lists.{image-list}
-use Rattle.gain_map.proofs.Joins.{length-image-list}
+use Rattle.places.specs.Lists.{image-list}
+use Rattle.places.proofs.Lengths.{length-image-list}
 use Rattle.boxes.proofs.Marks.{associated}
 use Rattle.gain_map.proofs.association.write_image_association.Statement.{statement}
 use Rattle.gain_map.proofs.association.write_image_association.Tie as tie

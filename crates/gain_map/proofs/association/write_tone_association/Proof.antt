@@ -7,8 +7,8 @@ use mathlib.Core.Bool.{Bool, cond}
 use Prim.Native.Nat.{ℕ, _+_}
 use mathlib.Core.List.{flatMap}
 use Rattle.places.specs.Counts.{tone-count}
-use Rattle.gain_map.specs.Lists.{tone-list}
-use Rattle.gain_map.proofs.Joins.{length-tone-list}
+use Rattle.places.specs.Lists.{tone-list}
+use Rattle.places.proofs.Lengths.{length-tone-list}
 use Rattle.boxes.proofs.Marks.{associated}
 use Rattle.gain_map.proofs.association.write_tone_association.Statement.{statement}
 use Rattle.gain_map.proofs.association.write_tone_association.Tie as tie

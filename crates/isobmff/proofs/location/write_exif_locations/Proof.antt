@@ -4,7 +4,7 @@ use native.Mathlib.Omega.{arith}
 use mathlib.Core.Path.{refl, ap}
 use Rattle.octets.proofs.Stores.{_▹_, kept, told}
 use Prim.Native.Nat.{ℕ}
-use Rattle.panel.specs.Items.{ordinary, exif-id}
+use Rattle.panel.specs.Items.{ordinary}
 use Rattle.panel.specs.Iloc.{entry}
 use Rattle.locations.specs.Spans.{location}
 use Rattle.isobmff.proofs.Locations.{exif-first}

@@ -1,19 +1,20 @@
--- Three bytes for each picture, and one for each of its properties.
+-- The runs are the definition's positions, and so is the size that they make.
 use borrow.Author.Needs.{needs}
-use native.Mathlib.Omega.{arith}
-use mathlib.Core.Path.{ap}
+use mathlib.Core.Path.{sym, ap, _∙_}
 use Rattle.panel.specs.Of.{panel-of}
-use Rattle.length.specs.Properties.{pictures}
 use Rattle.panel.specs.declared.Shape.{Shape}
+use Rattle.places.specs.Counts.{ipma-bytes}
+use Rattle.places.proofs.Sizes.{ipma-by-runs}
 use Rattle.sizes.proofs.properties.ipma_size.Statement.{statement}
 use Rattle.sizes.proofs.properties.ipma_size.Tie as tie
 
 returns : tie.Need-returns
-unfolding panel-of
 returns c =
     let c2 = c in
     let c1 = c2 .before in
-    λ l e. omega (arith, (c1 .picture-count .ensures) .0, ap pictures e, (c2 .association-count .ensures) .0 l (ap (λ (s : Shape). s .tiles) e))
+    let start = c1 .before in
+    let z = c1 .places-of .result in
+    λ l e. (c2 .ipma-bytes .ensures) .0 ∙ ap (λ (s : Shape). ipma-bytes s z) e ∙ sym (ipma-by-runs (panel-of (start .args .panel) l) z ((c1 .places-of .ensures) .0 l e))
 
 pub ipma-size-spec : {M : Type 1} → statement M
-ipma-size-spec = tie.close (tie.spec (λ c κs. search needs) (λ c. search needs) (λ c. search needs) (λ c κs. search needs) (λ c. search needs) returns)
+ipma-size-spec = tie.close (tie.spec (λ c κs. search needs) (λ c κs. search needs) returns)

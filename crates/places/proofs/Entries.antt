@@ -8,11 +8,9 @@ use Rattle.panel.specs.Items.{ordinary, given, gain-id, colour-grid, alpha-tile
 use Rattle.panel.specs.Ipma.{Association, _with_, each, essential, associations, association}
 use Rattle.panel.specs.declared.Shape.{Shape}
 use Rattle.boxes.specs.Runs.{places}
-use Rattle.gain_map.specs.Lists.{image-list, tone-list}
-use Rattle.grid_lists.specs.Lists.{color-grid-list, alpha-grid-list}
-use Rattle.ipma.specs.Entries.{color-entries, alpha-entries}
+use Rattle.places.specs.Lists.{image-list, tone-list, color-grid-list, alpha-grid-list, color-entries, alpha-entries}
 use Rattle.places.specs.Roles.{its-of}
 use Rattle.places.specs.declared.Places.{Places}
 use Rattle.boxes.proofs.Pictures.{pictures-joined}
 
 -- the gain map's entries
