@@ -1,21 +1,42 @@
 -- What the code's tests and loops say of the definitions' tests.
-use mathlib.Core.Path.{_≡_, sym, ap, _∙_, subst⁻¹}
-use mathlib.Core.Bool.{Bool, true, false, _||_}
+use mathlib.Core.Path.{_≡_, refl, sym, ap, _∙_, subst⁻¹}
+use mathlib.Core.Bool.{Bool, true, false}
 use mathlib.Core.List.{List, _∷_}
 use Prim.Native.Nat.{ℕ, _+_, _*_, _^_, _<_, _≤_}
 use native.Mathlib.Nat.{le-of-lt, lt-of-le-of-lt, mul-le-mul-left, mul-lt-mul-of-pos-right}
 use native.Mathlib.Numerals.{add-one}
+use lib.Dec.{eqb}
 use lib.Pow.{pow-pos, pow-add}
 use lib.ListN.{length, drop, getD, drop-of-length-le}
 use lib.Seq.{drop-cons}
+use borrow.Author.Tests.{eqb-true, not-false}
 use Rattle.octets.specs.Numbers.{total}
+use Rattle.panel.specs.Refusal.{Check, first, differ}
 
--- a test that stops at its first part, and one that goes on to its second
-pub or-here : (a b : Bool) → a ≡ true → a ≡ (a || b)
-or-here a b e = e ∙ sym (ap (λ (x : Bool). x || b) e)
+-- ---- a list of checks decides a number
 
-pub or-next : (a b : Bool) → a ≡ false → b ≡ (a || b)
-or-next a b e = sym (ap (λ (x : Bool). x || b) e)
+pub record Decides (k : ℕ) (l : List Check) : Type 0 where
+  pub by : k ≡ first l
+
+pub pass : {k : ℕ} {c : Check} {l : List Check} → Decides k (c ∷ l) → c .holds tt ≡ false → Decides k l
+pass {k} {c} {l} s e = record { by = s .by ∙ ap (λ (b : Bool). elim b [ true ↦ c .number | false ↦ first l ]) e }
+
+pub stop : {k : ℕ} {c : Check} {l : List Check} → Decides k (c ∷ l) → c .holds tt ≡ true → k ≡ c .number
+stop {k} {c} {l} s e = s .by ∙ ap (λ (b : Bool). elim b [ true ↦ c .number | false ↦ first l ]) e
+
+-- a check whose number is not the one decided does not hold
+pub passed : {k : ℕ} {c : Check} {l : List Check} → Decides k (c ∷ l) → (c .number ≡ k → ⊥) → c .holds tt ≡ false
+passed {k} {c} {l} s n = go (c .holds tt) refl
+  where
+    go : (b : Bool) → c .holds tt ≡ b → c .holds tt ≡ false
+    go true e = absurd (n (sym (stop s e)))
+    go false e = e
+
+-- two numbers that do not differ
+pub same : (m n : ℕ) → differ m n ≡ false → m ≡ n
+same m n e = eqb-true m n (not-false (eqb m n) e)
+
+-- ---- sums and products
 
 -- one turn of a loop that adds
 pub total-step : (l : List ℕ) (i : ℕ) → i < length l → total (drop i l) ≡ getD l i 0 + total (drop (i + 1) l)

@@ -1,4 +1,5 @@
-// What a gain map adds to each box: the counterpart of upstream's isobmff/gain_map.rs, layout V1, with numbers by value.
+// What a gain map adds to iloc, ipco, ipma and mdat: with `gain_items`, which has iinf, iref and grpl, the counterpart of upstream's
+// isobmff/gain_map.rs, layout V1, with numbers by value.
 
 pub mod association;
 pub mod location;

@@ -5,14 +5,10 @@ use Prim.Native.Nat.{ℕ, _≤_, _<_}
 use native.Mathlib.Omega.{arith}
 use lib.Dec.{ltb}
 use borrow.Author.Tests.{lt-ltb, le-ltb, ltb-false}
+use Rattle.octets.proofs.Tests.{or-false}
 use Rattle.panel.specs.Iloc.{wide}
 use Rattle.panel.specs.declared.GridDims.{GridDims}
 use Rattle.grids.specs.Descriptors.{Narrow}
-
--- of two tests neither holds
-pub or-false : (a b : Bool) → (a || b) ≡ false → (a ≡ false) × (b ≡ false)
-or-false true b e = absurd (let z : _≡_ {A = ℕ} 0 1 = cc in omega arith)
-or-false false b e = (refl, e)
 
 -- a great width decides, and behind a small one the height
 pub by-width : (d : GridDims) → 65535 < d .«full_w» → ltb 65535 (d .«full_w») ≡ wide d

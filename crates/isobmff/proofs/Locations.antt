@@ -15,7 +15,7 @@ use Rattle.panel.specs.Iloc.{Extent, located, entry, iloc}
 use Rattle.panel.specs.Refusal.{last-id}
 use Rattle.panel.specs.declared.Shape.{Shape}
 use Rattle.panel.proofs.Ids.{length-given}
-use Rattle.panel.proofs.Payloads.{length-entry}
+use Rattle.panel.proofs.Payloads.{length-entry, length-located}
 use Rattle.length.specs.Size.{iloc-size}
 use Rattle.locations.specs.Spans.{spans, location}
 use Rattle.locations.proofs.Spans.{entries-append, length-spans}
@@ -48,10 +48,6 @@ length-other-sizes s e g = simp (length-append, length-given)
 -- the entries' bytes, by part
 pub iloc-long : (s : Shape) → iloc-size ordinary s ≡ 8 + (16 * (2 * s .tiles + 2) + (cond (s .exif) 16 0 + (cond (s .gain) 32 0 + cond (s .tone) 16 0)))
 iloc-long s = omega (arith, cond-mul (s .exif) 16, cond-mul (s .gain) 2, cond-mul (s .gain) 32, cond-mul (s .tone) 16)
-
-length-located : (id method : ℕ) (l : List Extent) → length (located id method l) ≡ length l
-length-located id method [] = refl
-length-located id method (e ∷ l) = ap suc (length-located (suc id) method l)
 
 -- elements printed in pieces
 pieces : {A : Type 0} (print : A → List ℕ) (t u o : List A) (g h : A) → (flatMap print t ++ print g) ++ ((flatMap print u ++ print h) ++ flatMap print o) ≡ flatMap print (t ++ (g ∷ (u ++ (h ∷ o))))

@@ -1,8 +1,8 @@
 // The tile lookup by numbers: since a reference can't be returned to C, where the tile's payload lies.
 ghost use mathlib.Core.Path.{_≡_};
-ghost use mathlib.Core.Bool.{cond};
 ghost use Rattle.tiles.specs.Lookup.{pictures, tile-span};
 ghost use Rattle.kahopiru.specs.Tile.{tile-told};
+use octets::when;
 use panel::ItemId;
 use tiles::tile_span;
 
@@ -14,13 +14,6 @@ pub struct TilePlace {
     pub alpha: u32,
     pub start: u64,
     pub length: u64,
-}
-
-// Yes as 1, no as 0.
-fn yes(b: bool) -> u32
-    ensures { λ r. ⌜ r ≡ cond b 1 0 ⌝ }
-{
-    if b { 1 } else { 0 }
 }
 
 // The place of the tile that an item id names, or the number of the refusal: 2, 3, 4 or 7.
@@ -43,7 +36,7 @@ pub extern "C" fn kahopiru_tile(
     );
     TilePlace {
         refusal: span.refusal as u32,
-        alpha: yes(span.alpha),
+        alpha: when(span.alpha, 1),
         start: span.start,
         length: span.size as u64,
     }

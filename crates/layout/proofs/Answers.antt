@@ -12,31 +12,22 @@ use Rattle.panel.specs.Panel.{Panel}
 use Rattle.panel.specs.Of.{Lent, panel-of}
 use Rattle.panel.specs.Items.{ordinary, shape}
 use Rattle.panel.specs.File.{file}
-use Rattle.panel.specs.Refusal.{bad-side, bad-grid, differ, bad-counts, bad-sum, last-id, Check, first, checks, refusal}
+use Rattle.panel.specs.Refusal.{bad-side, bad-grid, differ, bad-counts, bad-sum, last-id, checks, refusal}
 use Rattle.panel.specs.Answer.{made, refused, outcome, length-answer}
 use Rattle.panel.specs.declared.Panel.{Panel as Numbers}
 use Rattle.panel.specs.declared.Shape.{Shape}
 use Rattle.length.specs.Parts.{Even}
 use Rattle.length.specs.Size.{size}
 use Rattle.length.proofs.File.{length-file}
-use Rattle.grids.proofs.Wide.{or-false}
+use Rattle.octets.proofs.Tests.{or-false}
+use Rattle.checks.proofs.Tests.{same, Decides, pass, stop}
 use Rattle.sizes.specs.Capped.{Capped}
 
--- ---- a list of checks
+-- ---- the checks decide
 
--- what is left to check decides
-record Left (p : Panel) (l : List Check) : Type 0 where
-  decides : refusal ordinary p ≡ first l
-
-all : (p : Panel) → Left p (checks ordinary (length (file ordinary p)) p)
+all : (p : Panel) → Decides (refusal ordinary p) (checks ordinary (length (file ordinary p)) p)
 unfolding refusal
-all p = record { decides = refl }
-
-pass : {p : Panel} {c : Check} {l : List Check} → Left p (c ∷ l) → c .holds tt ≡ false → Left p l
-pass {p} {c} {l} s e = record { decides = s .decides ∙ ap (λ (b : Bool). elim b [ true ↦ c .number | false ↦ first l ]) e }
-
-stop : {p : Panel} {c : Check} {l : List Check} → Left p (c ∷ l) → c .holds tt ≡ true → refusal ordinary p ≡ c .number
-stop {p} {c} {l} s e = s .decides ∙ ap (λ (b : Bool). elim b [ true ↦ c .number | false ↦ first l ]) e
+all p = record { by = refl }
 
 -- the answer by the number of the refusal
 answered : (p : Panel) {k : ℕ} → refusal ordinary p ≡ k → outcome k (length (file ordinary p)) ≡ length-answer ordinary p
@@ -47,9 +38,6 @@ answered p e = sym (ap (λ (k : ℕ). outcome k (length (file ordinary p))) e)
 
 side-most : (n : ℕ) → bad-side n ≡ false → n ≤ 256
 side-most n e = ltb-false 256 n (or-false (ltb n 1) (ltb 256 n) e .1)
-
-same : (m n : ℕ) → differ m n ≡ false → m ≡ n
-same m n e = eqb-true m n (not-false (eqb m n) e)
 
 -- a grid has at most 65,536 tiles
 pub few : (rows cols t a : ℕ) → bad-grid rows cols ≡ false → bad-counts (rows * cols) t a ≡ false → t ≤ 65536
@@ -106,7 +94,7 @@ module _ (n : Numbers) (l : Lent) where
           let id = last-id (shape (panel-of n l)) in
           answered _ (stop (pass (pass (pass (all (panel-of n l)) (h .sides)) (h .counts)) (h .sums)) (le-leb 65536 id (omega (arith, ap last-id e))))
 
-      behind-4 : last-id s ≤ 65535 → Left (panel-of n l) (record { number = 5; holds = λ _. ltb 4294967295 (length (file ordinary (panel-of n l))) } ∷ [])
+      behind-4 : last-id s ≤ 65535 → Decides (refusal ordinary (panel-of n l)) (record { number = 5; holds = λ _. ltb 4294967295 (length (file ordinary (panel-of n l))) } ∷ [])
       unfolding panel-of
       behind-4 d =
           let id = last-id (shape (panel-of n l)) in
@@ -123,4 +111,4 @@ module _ (n : Numbers) (l : Lent) where
         done f =
             let p = panel-of n l in
             let k : r ≡ length (file ordinary p) = c .whole (omega arith) ∙ sym (length-file ordinary p even) in
-            ap made k ∙ answered p (pass (behind-4 d) (le-ltb 4294967295 (length (file ordinary p)) (omega arith)) .decides)
+            ap made k ∙ answered p (pass (behind-4 d) (le-ltb 4294967295 (length (file ordinary p)) (omega arith)) .by)

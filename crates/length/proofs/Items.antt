@@ -15,15 +15,11 @@ use Rattle.panel.specs.Ipma.{associations}
 use Rattle.panel.specs.Refusal.{last-id}
 use Rattle.panel.specs.declared.Shape.{Shape}
 use Rattle.panel.proofs.Ids.{length-ids-from, length-given}
-use Rattle.panel.proofs.Payloads.{length-samples, length-extents, locations-runs}
+use Rattle.panel.proofs.Payloads.{length-samples, length-extents, length-located, locations-runs}
 use Rattle.length.specs.Parts.{Even}
 use Rattle.length.specs.Properties.{pictures}
 
 -- ---- iloc
-
-length-located : (id method : ℕ) (l : List Extent) → length (located id method l) ≡ length l
-length-located id method [] = refl
-length-located id method (e ∷ l) = ap suc (length-located (suc id) method l)
 
 pub length-exif-payload : (e : Option (List ℕ)) → length (exif-payload e) ≡ cond (has e) 1 0
 length-exif-payload none = refl

@@ -1,6 +1,6 @@
 // Numbers and bytes written into a lent buffer.
 //
-// Each function takes a position and answers the one behind what it wrote. specs/ holds the definitions of numbers, boxes and
+// Each function that writes takes a position and answers the one behind what it wrote. specs/ holds the definitions of numbers, boxes and
 // writes, and proofs/ their laws, once for all crates.
 ghost use mathlib.Core.Path.{_≡_};
 ghost use mathlib.Core.Bool.{cond};

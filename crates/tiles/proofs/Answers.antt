@@ -9,17 +9,15 @@ use lib.ListN.{length, take, drop, getD}
 use borrow.Author.Tests.{ltb-false, leb-true, eqb-true, not-false}
 use Rattle.octets.specs.Numbers.{total}
 use Rattle.octets.proofs.Lists.{total-step, total-take}
-use Rattle.panel.specs.Refusal.{Check, first, differ}
+use Rattle.octets.proofs.Tests.{and-both, or-false, or-second}
+use Rattle.panel.specs.Refusal.{differ}
+use Rattle.checks.proofs.Tests.{same, Decides, pass, stop, passed}
 use Rattle.tiles.specs.Lookup.{names-colour, names-alpha, bad-lists, too-many, Pictures, tile-checks, tile-refusal, accepted-or, colour-index, alpha-index, sample, tile-bytes, span-of, no-span, tile-span, Address, span-address}
 use Rattle.tiles.specs.declared.TileSpan.{TileSpan}
 use Rattle.tiles.proofs.Samples.{sample-at}
-use Rattle.tiles.proofs.Tests.{and-true, or-false, or-second, Decides, pass, stop, passed}
 
 pub few : (n : ℕ) → too-many n ≡ false → n ≤ 32766
 few n e = omega (arith, ltb-false 65535 (2 * n + 2) e)
-
-same : (m n : ℕ) → differ m n ≡ false → m ≡ n
-same m n e = eqb-true m n (not-false (eqb m n) e)
 
 named : (a b : Bool) → (a || b) ≡ true → not (a || b) ≡ false
 named a b e = ap not e
@@ -28,7 +26,7 @@ named a b e = ap not e
 
 pub colour-within : (n id : ℕ) → names-colour n id ≡ true → (1 ≤ id) × (id - 1 < n)
 colour-within n id e =
-    let h = and-true (leb 1 id) (leb id n) e in
+    let h = and-both (leb 1 id) (leb id n) e in
     (leb-true 1 id (h .0), omega (arith, leb-true 1 id (h .0), leb-true id n (h .1)))
 
 -- ---- by a refusal's number
@@ -60,19 +58,19 @@ module _ (id : ℕ) (p : Pictures) where
   -- ---- each answer
 
   pub stop-2 : Lists true → 2 ≡ tile-refusal id p
-  stop-2 e = stop all e
+  stop-2 e = sym (stop all e)
 
   pub stop-3 : Lists false → Sums true → 3 ≡ tile-refusal id p
-  stop-3 a e = stop (pass all a) e
+  stop-3 a e = sym (stop (pass all a) e)
 
   pub stop-4 : Lists false → Sums false → too-many n ≡ true → 4 ≡ tile-refusal id p
-  stop-4 a b e = stop (pass (pass all a) b) e
+  stop-4 a b e = sym (stop (pass (pass all a) b) e)
 
   pub accept : Lists false → Sums false → too-many n ≡ false → (names-colour n id || names-alpha n id) ≡ true → 0 ≡ tile-refusal id p
   accept a b c e = sym (pass (pass (pass (pass all a) b) c) (named (names-colour n id) (names-alpha n id) e) .by)
 
   pub stop-7 : Lists false → Sums false → too-many n ≡ false → (names-colour n id || names-alpha n id) ≡ false → 7 ≡ tile-refusal id p
-  stop-7 a b c e = stop (pass (pass (pass all a) b) c) (ap not e)
+  stop-7 a b c e = sym (stop (pass (pass (pass all a) b) c) (ap not e))
 
   -- ---- what is known where the answer is 0
 
@@ -106,7 +104,7 @@ module _ (id : ℕ) (p : Pictures) where
   pub alpha-within : tile-refusal id p ≡ 0 → names-colour n id ≡ false → (n + 2 ≤ id) × (alpha-index n id < length (p .alphas))
   alpha-within e h =
       let known = accepted e in
-      let parts = and-true (leb (n + 2) id) (leb id (2 * n + 1)) (or-second (names-colour n id) (names-alpha n id) (known .some-tile) h) in
+      let parts = and-both (leb (n + 2) id) (leb id (2 * n + 1)) (or-second (names-colour n id) (names-alpha n id) (known .some-tile) h) in
       let least = leb-true (n + 2) id (parts .0) in
       (least, omega (arith, least, leb-true id (2 * n + 1) (parts .1), known .counts))
 

@@ -1,4 +1,3 @@
-pub mod Tests
 pub mod Samples
 pub mod Answers
 pub mod Entries

@@ -2,7 +2,7 @@
 use borrow.Author.Needs.{needs}
 use mathlib.Core.Path.{ap}
 use mathlib.Core.Bool.{not}
-use Rattle.checks.proofs.Tests.{or-here, or-next}
+use Rattle.octets.proofs.Tests.{or-here, or-next}
 use borrow.Author.Tests.{eq-eqb, ne-eqb}
 use Rattle.checks.proofs.bad_counts.Statement.{statement}
 use Rattle.checks.proofs.bad_counts.Tie as tie

@@ -1,7 +1,7 @@
 -- The first side that is bad, or the second.
 use borrow.Author.Needs.{needs}
 use mathlib.Core.Path.{sym, _∙_}
-use Rattle.checks.proofs.Tests.{or-here, or-next}
+use Rattle.octets.proofs.Tests.{or-here, or-next}
 use Rattle.checks.proofs.bad_grid.Statement.{statement}
 use Rattle.checks.proofs.bad_grid.Tie as tie
 

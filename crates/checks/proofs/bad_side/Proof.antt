@@ -1,5 +1,5 @@
 -- The first test that holds, or the second.
-use Rattle.checks.proofs.Tests.{or-here, or-next}
+use Rattle.octets.proofs.Tests.{or-here, or-next}
 use borrow.Author.Tests.{lt-ltb, le-ltb}
 use Rattle.checks.proofs.bad_side.Statement.{statement}
 use Rattle.checks.proofs.bad_side.Tie as tie

@@ -2,7 +2,7 @@
 use borrow.Author.Needs.{needs}
 use mathlib.Core.Path.{sym, ap, _∙_}
 use mathlib.Core.Bool.{not}
-use Rattle.checks.proofs.Tests.{or-here, or-next}
+use Rattle.octets.proofs.Tests.{or-here, or-next}
 use Rattle.checks.proofs.bad_sums.Statement.{statement}
 use Rattle.checks.proofs.bad_sums.Tie as tie
 

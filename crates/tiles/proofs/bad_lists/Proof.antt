@@ -2,7 +2,7 @@
 use mathlib.Core.Path.{ap}
 use mathlib.Core.Bool.{not}
 use borrow.Author.Tests.{eq-eqb, ne-eqb}
-use Rattle.checks.proofs.Tests.{or-here, or-next}
+use Rattle.octets.proofs.Tests.{or-here, or-next}
 use Rattle.tiles.proofs.bad_lists.Statement.{statement}
 use Rattle.tiles.proofs.bad_lists.Tie as tie
 

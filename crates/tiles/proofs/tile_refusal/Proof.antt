@@ -1,7 +1,7 @@
 -- Each check that refuses answers its number, and where none does the answer is 0.
 use borrow.Author.Needs.{needs}
 use mathlib.Core.Path.{sym, _∙_}
-use Rattle.checks.proofs.Tests.{or-here, or-next}
+use Rattle.octets.proofs.Tests.{or-here, or-next}
 use Rattle.tiles.specs.Lookup.{pictures}
 use Rattle.tiles.proofs.Answers.{few, stop-2, stop-3, stop-4, stop-7, accept}
 use Rattle.tiles.proofs.tile_refusal.Statement.{statement}

@@ -12,7 +12,7 @@ returns c =
     let c2 = c .before in
     let c1 = c2 .before .before in
     let s = c1 .tile-span .result in
-    ap (λ (k : ℕ). record { refusal = s .refusal; alpha = k; start = s .start; length = s .size }) (c2 .yes .ensures) ∙ ap tile-told (c1 .tile-span .ensures)
+    ap (λ (k : ℕ). record { refusal = s .refusal; alpha = k; start = s .start; length = s .size }) ((c2 .when .ensures) .0) ∙ ap tile-told (c1 .tile-span .ensures)
 
 pub kahopiru-tile-spec : {M : Type 1} → statement M
 kahopiru-tile-spec = tie.close (tie.spec (λ c κs. search needs) (λ c. search needs) (λ c κs. search needs) (λ c. search needs) returns)
