@@ -1,7 +1,7 @@
 // The next free property position: a record that is lent to what places the gain map's properties, and is raised there.
 ghost use mathlib.Core.Path.{_≡_};
 ghost use Prim.Native.Nat.{_+_, _≤_};
-ghost use Rattle.positions.specs.Positions.{behind-image, behind-tone};
+ghost use Rattle.gain_positions.specs.Positions.{behind-image, behind-tone};
 use panel::PropertyPosition;
 
 // The next free position.
@@ -53,7 +53,7 @@ pub fn place_gain(positions: &mut Positions, image: u8, tone: u8, alternates: u8
 }
 
 // The positions of the gain map's properties from `next` on: the record is made here and lent.
-pub fn gain_positions(next: PropertyPosition, image: u8, tone: u8, alternates: u8) -> PlacedGain
+pub fn gain_from(next: PropertyPosition, image: u8, tone: u8, alternates: u8) -> PlacedGain
     requires { ⌜ behind-tone (behind-image (next .0) image) tone alternates ≤ 127 ⌝ }
     ensures { λ r. ⌜ (r .image .0 ≡ next .0) × (r .tone .0 ≡ behind-image (next .0) image) × (r .next .0 ≡ behind-tone (behind-image (next .0) image) tone alternates) ⌝ }
 {

@@ -40,25 +40,25 @@ use denote.Triple.Walked.{says, needs, Stays, stay-ref, stay-none, walkOf, AllGo
 use denote.Exit.{yes}
 use Rattle.panel.proofs.PropertyPosition as P
 use Rattle.panel.proofs.PropertyPosition.Laws as P′
-use Rattle.positions.specs.Positions.{behind-image, behind-tone}
-use Rattle.positions.specs.declared.Positions.{Positions}
-use Rattle.positions.specs.declared.GainPositions.{GainPositions}
-use Rattle.positions.proofs.Positions as T
-use Rattle.positions.proofs.Positions.Laws as T′
-use Rattle.positions.proofs.GainPositions as G
-use Rattle.positions.proofs.GainPositions.Laws as G′
-use Rattle.positions.proofs.image_raised as image
-use Rattle.positions.proofs.image_raised.Symbol as image-def
-use Rattle.positions.proofs.image_raised.Symbol.{name as #positions·image-raised}
-use Rattle.positions.proofs.image_raised.Met as image-thm
-use Rattle.positions.proofs.tone_raised as tone
-use Rattle.positions.proofs.tone_raised.Symbol as tone-def
-use Rattle.positions.proofs.tone_raised.Symbol.{name as #positions·tone-raised}
-use Rattle.positions.proofs.tone_raised.Met as tone-thm
-use Rattle.positions.proofs.place_gain.Key.{name as #positions·place-gain}
-use Rattle.positions.proofs.place_gain as place-gain
-use Rattle.positions.proofs.place_gain.Statement as stated
-use Rattle.positions.proofs.place_gain.Code as code
+use Rattle.gain_positions.specs.Positions.{behind-image, behind-tone}
+use Rattle.gain_positions.specs.declared.Positions.{Positions}
+use Rattle.gain_positions.specs.declared.GainPositions.{GainPositions}
+use Rattle.gain_positions.proofs.Positions as T
+use Rattle.gain_positions.proofs.Positions.Laws as T′
+use Rattle.gain_positions.proofs.GainPositions as G
+use Rattle.gain_positions.proofs.GainPositions.Laws as G′
+use Rattle.gain_positions.proofs.image_raised as image
+use Rattle.gain_positions.proofs.image_raised.Symbol as image-def
+use Rattle.gain_positions.proofs.image_raised.Symbol.{name as #gain-positions·image-raised}
+use Rattle.gain_positions.proofs.image_raised.Met as image-thm
+use Rattle.gain_positions.proofs.tone_raised as tone
+use Rattle.gain_positions.proofs.tone_raised.Symbol as tone-def
+use Rattle.gain_positions.proofs.tone_raised.Symbol.{name as #gain-positions·tone-raised}
+use Rattle.gain_positions.proofs.tone_raised.Met as tone-thm
+use Rattle.gain_positions.proofs.place_gain.Key.{name as #gain-positions·place-gain}
+use Rattle.gain_positions.proofs.place_gain as place-gain
+use Rattle.gain_positions.proofs.place_gain.Statement as stated
+use Rattle.gain_positions.proofs.place_gain.Code as code
 
 abbrev Arg : Type 0
 Arg = RefT Positions × (ℕ × (ℕ × (ℕ × Unit {0})))
@@ -163,7 +163,7 @@ module _ {M : Type 1} (𝓤 : URA M) (H : Heap 𝓤) (A : Atoms 𝓤) (W : Given
       owned ! u8 (Is u8) (uint-makes 𝓤 H A W w8) i _ (refl, i-fits) $ fjoin ! $ move ! (1 ∷ 0 ∷ []) $ fjoin ! $
       owned ! G.the-row (Is G.the-row) (LL.makes G.the-type G′.the-plain 𝓤 H A) (r m) _ (made-r m fits) $ move ! (1 ∷ 0 ∷ []) $ done !
 
-  module _ (C : Calls 𝓤 H) (Λ : Loops 𝓤 H) (fm : FmC 𝓤 H (W .laws) C) (known-image : Triple 𝓤 (C #positions·image-raised) (Image 𝓤 H A at-mem run)) (known-tone : Triple 𝓤 (C #positions·tone-raised) (Tone 𝓤 H A at-mem run)) where
+  module _ (C : Calls 𝓤 H) (Λ : Loops 𝓤 H) (fm : FmC 𝓤 H (W .laws) C) (known-image : Triple 𝓤 (C #gain-positions·image-raised) (Image 𝓤 H A at-mem run)) (known-tone : Triple 𝓤 (C #gain-positions·tone-raised) (Tone 𝓤 H A at-mem run)) where
     walk : ent 𝓤 (onEntry 𝓤 H A place-gain.signature (κ, tt) (q, tt) x at) (WpFn 𝓤 H C Λ code.function (vptr b o ∷ vint w8 i ∷ vint w8 t ∷ vint w8 a ∷ []) Post)
     walk =
         qed W ((‵ (flft κ q) ⊛ ‵ ftrue) ∷ ‵ (owns (MutRef (named 0) κ T.the-row ∷ u8 ∷ u8 ∷ u8 ∷ []) x at) ∷ []) ∵ split ! $ move ! (2 ∷ []) $ fsplit ! $ fsplit3 ! $ drop ! $ move ! (0 ∷ 1 ∷ 3 ∷ []) $
@@ -204,7 +204,7 @@ module _ {M : Type 1} (𝓤 : URA M) (H : Heap 𝓤) (A : Atoms 𝓤) (W : Given
         keep ! (0 ∷ 1 ∷ 2 ∷ []) $ by ! (exits m k (is .1) em ek))))))))))))))))))))
 
 module _ {M : Type 1} (𝓤 : URA M) (H : Heap 𝓤) (A : Atoms 𝓤) (W : Given 𝓤 H A) (at-mem : Memory → SProp 𝓤) (run : Routine → Fun 𝓤) where
-  place-gain-walks : (C : Calls 𝓤 H) (Λ : Loops 𝓤 H) → FmC 𝓤 H (W .laws) C → Triple 𝓤 (C #positions·image-raised) (Image 𝓤 H A at-mem run) → Triple 𝓤 (C #positions·tone-raised) (Tone 𝓤 H A at-mem run)
+  place-gain-walks : (C : Calls 𝓤 H) (Λ : Loops 𝓤 H) → FmC 𝓤 H (W .laws) C → Triple 𝓤 (C #gain-positions·image-raised) (Image 𝓤 H A at-mem run) → Triple 𝓤 (C #gain-positions·tone-raised) (Tone 𝓤 H A at-mem run)
       → Walks 𝓤 H A place-gain.ended stayed (WpFn 𝓤 H C Λ code.function) (place-gain.clauses 𝓤 H A at-mem run)
   place-gain-walks C Λ fm known-image known-tone = walked 𝓤 H A place-gain.ended stayed (place-gain.clauses 𝓤 H A at-mem run) (WpFn 𝓤 H C Λ code.function)
       (λ κs. (ptr-vals, (uint-vals w8, (uint-vals w8, (uint-vals w8, tt))))) (λ κs. (mut-tells (named 0) (κs .0) T.the-row, (uint-tells w8, (uint-tells w8, (uint-tells w8, tt)))))
@@ -214,7 +214,7 @@ module _ {M : Type 1} (𝓤 : URA M) (H : Heap 𝓤) (A : Atoms 𝓤) (W : Given
   goes = (goes-ref 𝓤 H A W 1 0 tt (plain (λ _. T.the-row)), (goes-none 𝓤 H A W 1 (λ _. u8) yes (λ κs x f. refl), (goes-none 𝓤 H A W 1 (λ _. u8) yes (λ κs x f. refl), (goes-none 𝓤 H A W 1 (λ _. u8) yes (λ κs x f. refl), tt))))
 
 place-gain-meets : {M : Type 1} (𝓤 : URA M) (H : Heap 𝓤) (A : Atoms 𝓤) → Given 𝓤 H A → (at-mem : Memory → SProp 𝓤) (run : Routine → Fun 𝓤) (𝓣 : Tables 𝓤 H)
-    → Triple 𝓤 (𝓣 .C #positions·image-raised) (Image 𝓤 H A at-mem run) → Triple 𝓤 (𝓣 .C #positions·tone-raised) (Tone 𝓤 H A at-mem run)
+    → Triple 𝓤 (𝓣 .C #gain-positions·image-raised) (Image 𝓤 H A at-mem run) → Triple 𝓤 (𝓣 .C #gain-positions·tone-raised) (Tone 𝓤 H A at-mem run)
     → Meets 𝓤 H A place-gain.signature (WpFn 𝓤 H (𝓣 .C) (𝓣 .Λ) code.function) (place-gain.spec 𝓤 H A at-mem run)
 place-gain-meets 𝓤 H A W at-mem run 𝓣 known-image known-tone =
     walk-meets 𝓤 H A place-gain.ended stayed W (goes 𝓤 H A W at-mem run) (place-gain.clauses 𝓤 H A at-mem run) (WpFn 𝓤 H (𝓣 .C) (𝓣 .Λ) code.function) (WpFn-mono 𝓤 H (W .laws) 𝓣 code.function)
@@ -224,7 +224,7 @@ pub place-gain-spec : {M : Type 1} → stated.statement M
 unfolding code.routine tablesOf
 place-gain-spec 𝓤 H 𝓜 𝓖 𝓡 =
     entered 𝓤 H (tripleOf 𝓤 H (𝓖 .A) place-gain.signature (place-gain.spec 𝓤 H (𝓖 .A) (𝓜 .mem) (𝓡 .run)))
-    (tables 𝓤 H 𝓜 𝓡 code.env .C) (tables 𝓤 H 𝓜 𝓡 code.env .Λ) #positions·place-gain code.function (code.unfolded 𝓤 H 𝓜 𝓡)
+    (tables 𝓤 H 𝓜 𝓡 code.env .C) (tables 𝓤 H 𝓜 𝓡 code.env .Λ) #gain-positions·place-gain code.function (code.unfolded 𝓤 H 𝓜 𝓡)
     (place-gain-meets 𝓤 H (𝓖 .A) (givenOf 𝓤 H 𝓜 𝓖) (𝓜 .mem) (𝓡 .run) (tablesOf 𝓤 H 𝓜 (tables 𝓤 H 𝓜 𝓡 code.env))
-    (cited 𝓤 H (Image 𝓤 H (𝓖 .A) (𝓜 .mem) (𝓡 .run)) 𝓜 𝓡 code.env #positions·image-raised image-def.routine code.calls-positions·image-raised (image-thm.met 𝓤 H 𝓜 𝓖 𝓡))
-    (cited 𝓤 H (Tone 𝓤 H (𝓖 .A) (𝓜 .mem) (𝓡 .run)) 𝓜 𝓡 code.env #positions·tone-raised tone-def.routine code.calls-positions·tone-raised (tone-thm.met 𝓤 H 𝓜 𝓖 𝓡)))
+    (cited 𝓤 H (Image 𝓤 H (𝓖 .A) (𝓜 .mem) (𝓡 .run)) 𝓜 𝓡 code.env #gain-positions·image-raised image-def.routine code.calls-gain-positions·image-raised (image-thm.met 𝓤 H 𝓜 𝓖 𝓡))
+    (cited 𝓤 H (Tone 𝓤 H (𝓖 .A) (𝓜 .mem) (𝓡 .run)) 𝓜 𝓡 code.env #gain-positions·tone-raised tone-def.routine code.calls-gain-positions·tone-raised (tone-thm.met 𝓤 H 𝓜 𝓖 𝓡)))

@@ -42,29 +42,29 @@ use denote.Exit.{yes}
 use Rattle.panel.specs.declared.PropertyPosition.{PropertyPosition}
 use Rattle.panel.proofs.PropertyPosition as P
 use Rattle.panel.proofs.PropertyPosition.Laws as P′
-use Rattle.positions.specs.Positions.{behind-image, behind-tone}
-use Rattle.positions.specs.declared.Positions.{Positions}
-use Rattle.positions.specs.declared.GainPositions.{GainPositions}
-use Rattle.positions.specs.declared.PlacedGain.{PlacedGain}
-use Rattle.positions.proofs.Positions as T
-use Rattle.positions.proofs.Positions.Laws as T′
-use Rattle.positions.proofs.GainPositions as G
-use Rattle.positions.proofs.GainPositions.Laws as G′
-use Rattle.positions.proofs.PlacedGain as R
-use Rattle.positions.proofs.PlacedGain.Laws as R′
-use Rattle.positions.proofs.place_gain as lent
-use Rattle.positions.proofs.place_gain.Symbol as lent-def
-use Rattle.positions.proofs.place_gain.Symbol.{name as #positions·place-gain}
-use Rattle.positions.proofs.place_gain.Met as lent-thm
-use Rattle.positions.proofs.gain_positions.Key.{name as #positions·gain-positions}
-use Rattle.positions.proofs.gain_positions as gain-positions
-use Rattle.positions.proofs.gain_positions.Statement as stated
-use Rattle.positions.proofs.gain_positions.Code as code
+use Rattle.gain_positions.specs.Positions.{behind-image, behind-tone}
+use Rattle.gain_positions.specs.declared.Positions.{Positions}
+use Rattle.gain_positions.specs.declared.GainPositions.{GainPositions}
+use Rattle.gain_positions.specs.declared.PlacedGain.{PlacedGain}
+use Rattle.gain_positions.proofs.Positions as T
+use Rattle.gain_positions.proofs.Positions.Laws as T′
+use Rattle.gain_positions.proofs.GainPositions as G
+use Rattle.gain_positions.proofs.GainPositions.Laws as G′
+use Rattle.gain_positions.proofs.PlacedGain as R
+use Rattle.gain_positions.proofs.PlacedGain.Laws as R′
+use Rattle.gain_positions.proofs.place_gain as lent
+use Rattle.gain_positions.proofs.place_gain.Symbol as lent-def
+use Rattle.gain_positions.proofs.place_gain.Symbol.{name as #gain-positions·place-gain}
+use Rattle.gain_positions.proofs.place_gain.Met as lent-thm
+use Rattle.gain_positions.proofs.gain_from.Key.{name as #gain-positions·gain-from}
+use Rattle.gain_positions.proofs.gain_from as gain-from
+use Rattle.gain_positions.proofs.gain_from.Statement as stated
+use Rattle.gain_positions.proofs.gain_from.Code as code
 
 abbrev Arg : Type 0
 Arg = PropertyPosition × (ℕ × (ℕ × (ℕ × Unit {0})))
 
-abbrev stayed : Stays (gain-positions.ended .signature .params) (gain-positions.ended .kept)
+abbrev stayed : Stays (gain-from.ended .signature .params) (gain-from.ended .kept)
 stayed = (stay-none (λ _. P.the-row) yes, (stay-none (λ _. u8) yes, (stay-none (λ _. u8) yes, (stay-none (λ _. u8) yes, tt))))
 
 -- what `place_gain` says of the first position n and the counts, its answer and the record that comes back
@@ -147,7 +147,7 @@ module _ {M : Type 1} (𝓤 : URA M) (H : Heap 𝓤) (A : Atoms 𝓤) (W : Given
   s l δ = record { ptr = (l, 0); name = δ; now = h }
 
   abbrev Post : Val → SProp 𝓤
-  Post = walkOf 𝓤 H A gain-positions.ended stayed (gain-positions.clauses 𝓤 H A at-mem run) .post ((tt, tt, tt, x, at), tt)
+  Post = walkOf 𝓤 H A gain-from.ended stayed (gain-from.clauses 𝓤 H A at-mem run) .post ((tt, tt, tt, x, at), tt)
 
   -- what the call's triple binds outside, and what the call asks
   abbrev to-lent : ℕ → ℕ → GName → Lent 𝓤 H A at-mem run .Ghost
@@ -162,13 +162,13 @@ module _ {M : Type 1} (𝓤 : URA M) (H : Heap 𝓤) (A : Atoms 𝓤) (W : Given
   exits : (r : GainPositions) (z : Positions) → Placed n i t a r z → ent 𝓤 (sem 𝓤 H A ftrue) (Post (mach-r r z))
   exits r z e =
       qed W (‵ ftrue ∷ []) ∵
-      suffices ! _ (ends-at 𝓤 H A gain-positions.ended stayed (gain-positions.clauses 𝓤 H A at-mem run) W ((tt, tt, tt, x, at), tt) (mach-r r z) (answer r z) (tt, (tt, (tt, (tt, tt)))) (tt, (tt, (tt, (tt, tt))))) $
+      suffices ! _ (ends-at 𝓤 H A gain-from.ended stayed (gain-from.clauses 𝓤 H A at-mem run) W ((tt, tt, tt, x, at), tt) (mach-r r z) (answer r z) (tt, (tt, (tt, (tt, tt)))) (tt, (tt, (tt, (tt, tt))))) $
       says ! e $ owned ! R.the-row (Is R.the-row) (LL.makes R.the-type R′.the-plain 𝓤 H A) (answer r z) _ (made-r r z e) $
       nothing ! $ owned ! u8 (Is u8) (uint-makes 𝓤 H A W w8) a _ (refl, a-fits) $ fjoin ! $ owned ! u8 (Is u8) (uint-makes 𝓤 H A W w8) t _ (refl, t-fits) $ fjoin ! $
       owned ! u8 (Is u8) (uint-makes 𝓤 H A W w8) i _ (refl, i-fits) $ fjoin ! $ owned ! P.the-row (Is P.the-row) (LL.makes P.the-type P′.the-plain 𝓤 H A) p _ (is-pos p fits-n) $ fjoin ! $ move ! (2 ∷ 0 ∷ 1 ∷ []) $ done !
 
-  module _ (C : Calls 𝓤 H) (Λ : Loops 𝓤 H) (fm : FmC 𝓤 H (W .laws) C) (known : Triple 𝓤 (C #positions·place-gain) (Lent 𝓤 H A at-mem run)) where
-    walk : ent 𝓤 (onEntry 𝓤 H A gain-positions.signature tt tt x at) (WpFn 𝓤 H C Λ code.function (pos p ∷ vint w8 i ∷ vint w8 t ∷ vint w8 a ∷ []) Post)
+  module _ (C : Calls 𝓤 H) (Λ : Loops 𝓤 H) (fm : FmC 𝓤 H (W .laws) C) (known : Triple 𝓤 (C #gain-positions·place-gain) (Lent 𝓤 H A at-mem run)) where
+    walk : ent 𝓤 (onEntry 𝓤 H A gain-from.signature tt tt x at) (WpFn 𝓤 H C Λ code.function (pos p ∷ vint w8 i ∷ vint w8 t ∷ vint w8 a ∷ []) Post)
     walk =
         qed W (‵ ftrue ∷ ‵ (owns (P.the-row ∷ u8 ∷ u8 ∷ u8 ∷ []) x at) ∷ []) ∵ enter ! C Λ code.function (pos p ∷ vint w8 i ∷ vint w8 t ∷ vint w8 a ∷ []) _ $
         alloc1 ! (λ l₀. alloc1 ! (λ l₁. alloc1 ! (λ l₂. alloc1 ! (λ l₃. alloc1 ! (λ l₄. alloc1 ! (λ l₅. alloc1 ! (λ l₆. alloc1 ! (λ l₇. alloc1 ! (λ l₈. alloc0 ! $ params1 ! $ pass1 ! (init ! 14 refl (tt, (record { fits = fits-n }, tt))) $
@@ -207,24 +207,24 @@ module _ {M : Type 1} (𝓤 : URA M) (H : Heap 𝓤) (A : Atoms 𝓤) (W : Given
         keep ! (0 ∷ []) $ by ! (exits r (zs .0) e))))))))))))))))))
 
 module _ {M : Type 1} (𝓤 : URA M) (H : Heap 𝓤) (A : Atoms 𝓤) (W : Given 𝓤 H A) (at-mem : Memory → SProp 𝓤) (run : Routine → Fun 𝓤) where
-  gain-positions-walks : (C : Calls 𝓤 H) (Λ : Loops 𝓤 H) → FmC 𝓤 H (W .laws) C → Triple 𝓤 (C #positions·place-gain) (Lent 𝓤 H A at-mem run) → Walks 𝓤 H A gain-positions.ended stayed (WpFn 𝓤 H C Λ code.function) (gain-positions.clauses 𝓤 H A at-mem run)
-  gain-positions-walks C Λ fm known = walked 𝓤 H A gain-positions.ended stayed (gain-positions.clauses 𝓤 H A at-mem run) (WpFn 𝓤 H C Λ code.function)
+  gain-from-walks : (C : Calls 𝓤 H) (Λ : Loops 𝓤 H) → FmC 𝓤 H (W .laws) C → Triple 𝓤 (C #gain-positions·place-gain) (Lent 𝓤 H A at-mem run) → Walks 𝓤 H A gain-from.ended stayed (WpFn 𝓤 H C Λ code.function) (gain-from.clauses 𝓤 H A at-mem run)
+  gain-from-walks C Λ fm known = walked 𝓤 H A gain-from.ended stayed (gain-from.clauses 𝓤 H A at-mem run) (WpFn 𝓤 H C Λ code.function)
       (λ κs. (LL.vals P.the-type P′.the-laws, (uint-vals w8, (uint-vals w8, (uint-vals w8, tt))))) (λ κs. (LL.tells P.the-type P′.the-laws, (uint-tells w8, (uint-tells w8, (uint-tells w8, tt)))))
       (λ κs qs bounds v _ are. needs 𝓤 _ _ (λ ok. walk 𝓤 H A W at-mem run (v .0) (v .1 .0) (v .1 .1 .0) (v .1 .1 .1 .0) (are .1 .0 .1) (are .1 .1 .0 .1) (are .1 .1 .1 .0 .1) ok C Λ fm known))
 
-  goes : AllGo 𝓤 H A W 0 (gain-positions.signature .params) (gain-positions.ended .kept) stayed
+  goes : AllGo 𝓤 H A W 0 (gain-from.signature .params) (gain-from.ended .kept) stayed
   goes = (goes-none 𝓤 H A W 0 (λ _. P.the-row) yes (λ κs x f. refl), (goes-none 𝓤 H A W 0 (λ _. u8) yes (λ κs x f. refl), (goes-none 𝓤 H A W 0 (λ _. u8) yes (λ κs x f. refl), (goes-none 𝓤 H A W 0 (λ _. u8) yes (λ κs x f. refl), tt))))
 
-gain-positions-meets : {M : Type 1} (𝓤 : URA M) (H : Heap 𝓤) (A : Atoms 𝓤) → Given 𝓤 H A → (at-mem : Memory → SProp 𝓤) (run : Routine → Fun 𝓤) (𝓣 : Tables 𝓤 H) → Triple 𝓤 (𝓣 .C #positions·place-gain) (Lent 𝓤 H A at-mem run)
-    → Meets 𝓤 H A gain-positions.signature (WpFn 𝓤 H (𝓣 .C) (𝓣 .Λ) code.function) (gain-positions.spec 𝓤 H A at-mem run)
-gain-positions-meets 𝓤 H A W at-mem run 𝓣 known =
-    walk-meets 𝓤 H A gain-positions.ended stayed W (goes 𝓤 H A W at-mem run) (gain-positions.clauses 𝓤 H A at-mem run) (WpFn 𝓤 H (𝓣 .C) (𝓣 .Λ) code.function) (WpFn-mono 𝓤 H (W .laws) 𝓣 code.function)
-    (gain-positions-walks 𝓤 H A W at-mem run (𝓣 .C) (𝓣 .Λ) (fmOf 𝓤 H (W .laws) 𝓣) known)
+gain-from-meets : {M : Type 1} (𝓤 : URA M) (H : Heap 𝓤) (A : Atoms 𝓤) → Given 𝓤 H A → (at-mem : Memory → SProp 𝓤) (run : Routine → Fun 𝓤) (𝓣 : Tables 𝓤 H) → Triple 𝓤 (𝓣 .C #gain-positions·place-gain) (Lent 𝓤 H A at-mem run)
+    → Meets 𝓤 H A gain-from.signature (WpFn 𝓤 H (𝓣 .C) (𝓣 .Λ) code.function) (gain-from.spec 𝓤 H A at-mem run)
+gain-from-meets 𝓤 H A W at-mem run 𝓣 known =
+    walk-meets 𝓤 H A gain-from.ended stayed W (goes 𝓤 H A W at-mem run) (gain-from.clauses 𝓤 H A at-mem run) (WpFn 𝓤 H (𝓣 .C) (𝓣 .Λ) code.function) (WpFn-mono 𝓤 H (W .laws) 𝓣 code.function)
+    (gain-from-walks 𝓤 H A W at-mem run (𝓣 .C) (𝓣 .Λ) (fmOf 𝓤 H (W .laws) 𝓣) known)
 
-pub gain-positions-spec : {M : Type 1} → stated.statement M
+pub gain-from-spec : {M : Type 1} → stated.statement M
 unfolding code.routine tablesOf
-gain-positions-spec 𝓤 H 𝓜 𝓖 𝓡 =
-    entered 𝓤 H (tripleOf 𝓤 H (𝓖 .A) gain-positions.signature (gain-positions.spec 𝓤 H (𝓖 .A) (𝓜 .mem) (𝓡 .run)))
-    (tables 𝓤 H 𝓜 𝓡 code.env .C) (tables 𝓤 H 𝓜 𝓡 code.env .Λ) #positions·gain-positions code.function (code.unfolded 𝓤 H 𝓜 𝓡)
-    (gain-positions-meets 𝓤 H (𝓖 .A) (givenOf 𝓤 H 𝓜 𝓖) (𝓜 .mem) (𝓡 .run) (tablesOf 𝓤 H 𝓜 (tables 𝓤 H 𝓜 𝓡 code.env))
-    (cited 𝓤 H (Lent 𝓤 H (𝓖 .A) (𝓜 .mem) (𝓡 .run)) 𝓜 𝓡 code.env #positions·place-gain lent-def.routine code.calls-positions·place-gain (lent-thm.met 𝓤 H 𝓜 𝓖 𝓡)))
+gain-from-spec 𝓤 H 𝓜 𝓖 𝓡 =
+    entered 𝓤 H (tripleOf 𝓤 H (𝓖 .A) gain-from.signature (gain-from.spec 𝓤 H (𝓖 .A) (𝓜 .mem) (𝓡 .run)))
+    (tables 𝓤 H 𝓜 𝓡 code.env .C) (tables 𝓤 H 𝓜 𝓡 code.env .Λ) #gain-positions·gain-from code.function (code.unfolded 𝓤 H 𝓜 𝓡)
+    (gain-from-meets 𝓤 H (𝓖 .A) (givenOf 𝓤 H 𝓜 𝓖) (𝓜 .mem) (𝓡 .run) (tablesOf 𝓤 H 𝓜 (tables 𝓤 H 𝓜 𝓡 code.env))
+    (cited 𝓤 H (Lent 𝓤 H (𝓖 .A) (𝓜 .mem) (𝓡 .run)) 𝓜 𝓡 code.env #gain-positions·place-gain lent-def.routine code.calls-gain-positions·place-gain (lent-thm.met 𝓤 H 𝓜 𝓖 𝓡)))
