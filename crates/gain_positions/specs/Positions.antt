@@ -8,3 +8,7 @@ behind-image n k = n + k + k + k + k + k
 -- ispe and pixi of the tone map, k boxes of each from n on, and so many alternate colr
 abbrev pub behind-tone : ℕ → ℕ → ℕ → ℕ
 behind-tone n k alternates = n + k + k + alternates
+
+-- both, one behind the other
+abbrev pub behind-gain : ℕ → ℕ → ℕ → ℕ → ℕ
+behind-gain n image tone alternates = behind-tone (behind-image n image) tone alternates

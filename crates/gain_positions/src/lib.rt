@@ -1,7 +1,7 @@
 // The next free property position: a record that is lent to what places the gain map's properties, and is raised there.
 ghost use mathlib.Core.Path.{_≡_};
 ghost use Prim.Native.Nat.{_+_, _≤_};
-ghost use Rattle.gain_positions.specs.Positions.{behind-image, behind-tone};
+ghost use Rattle.gain_positions.specs.Positions.{behind-image, behind-tone, behind-gain};
 use panel::PropertyPosition;
 
 // The next free position.
@@ -40,8 +40,10 @@ pub fn tone_raised(next: u8, each: u8, alternates: u8) -> u8
 
 // Places the gain map's properties from the record that it is lent, and raises the record behind them.
 pub fn place_gain(positions: &mut Positions, image: u8, tone: u8, alternates: u8) -> GainPositions
-    requires { ⌜ behind-tone (behind-image (now positions .next .0) image) tone alternates ≤ 127 ⌝ }
-    ensures { λ r. ⌜ (r .image .0 ≡ now (positions .entry) .next .0) × (r .tone .0 ≡ behind-image (now (positions .entry) .next .0) image) × (now (positions .exit) .next .0 ≡ behind-tone (behind-image (now (positions .entry) .next .0) image) tone alternates) ⌝ }
+    requires { ⌜ behind-gain (now positions .next .0) image tone alternates ≤ 127 ⌝ }
+    ensures { λ r. ⌜ (r .image .0 ≡ now (positions .entry) .next .0)
+        × (r .tone .0 ≡ behind-image (now (positions .entry) .next .0) image)
+        × (now (positions .exit) .next .0 ≡ behind-gain (now (positions .entry) .next .0) image tone alternates) ⌝ }
 {
     let first = positions.next.0;
     let second = image_raised(first, image);
@@ -54,8 +56,10 @@ pub fn place_gain(positions: &mut Positions, image: u8, tone: u8, alternates: u8
 
 // The positions of the gain map's properties from `next` on: the record is made here and lent.
 pub fn gain_from(next: PropertyPosition, image: u8, tone: u8, alternates: u8) -> PlacedGain
-    requires { ⌜ behind-tone (behind-image (next .0) image) tone alternates ≤ 127 ⌝ }
-    ensures { λ r. ⌜ (r .image .0 ≡ next .0) × (r .tone .0 ≡ behind-image (next .0) image) × (r .next .0 ≡ behind-tone (behind-image (next .0) image) tone alternates) ⌝ }
+    requires { ⌜ behind-gain (next .0) image tone alternates ≤ 127 ⌝ }
+    ensures { λ r. ⌜ (r .image .0 ≡ next .0)
+        × (r .tone .0 ≡ behind-image (next .0) image)
+        × (r .next .0 ≡ behind-gain (next .0) image tone alternates) ⌝ }
 {
     let mut positions = Positions { next: next };
     let placed = place_gain(&mut positions, image, tone, alternates);

@@ -1,4 +1,4 @@
-// The positions of the gain map's properties. The record of the next free position goes in by value and comes back raised.
+// The next positions of the record, and the positions of the gain map's properties. The record goes in by value and comes back raised.
 ghost use mathlib.Core.Path.{_≡_};
 ghost use Prim.Native.Nat.{_+_, _*_, _≤_};
 ghost use Rattle.places.specs.Places.{run-at, image-at, tone-at};

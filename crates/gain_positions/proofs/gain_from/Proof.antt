@@ -42,7 +42,7 @@ use denote.Exit.{yes}
 use Rattle.panel.specs.declared.PropertyPosition.{PropertyPosition}
 use Rattle.panel.proofs.PropertyPosition as P
 use Rattle.panel.proofs.PropertyPosition.Laws as P′
-use Rattle.gain_positions.specs.Positions.{behind-image, behind-tone}
+use Rattle.gain_positions.specs.Positions.{behind-image, behind-gain}
 use Rattle.gain_positions.specs.declared.Positions.{Positions}
 use Rattle.gain_positions.specs.declared.GainPositions.{GainPositions}
 use Rattle.gain_positions.specs.declared.PlacedGain.{PlacedGain}
@@ -69,16 +69,16 @@ stayed = (stay-none (λ _. P.the-row) yes, (stay-none (λ _. u8) yes, (stay-none
 
 -- what `place_gain` says of the first position n and the counts, its answer and the record that comes back
 abbrev Placed : ℕ → ℕ → ℕ → ℕ → GainPositions → Positions → Type 0
-Placed n i t a r z = (r .image .0 ≡ n) × (r .tone .0 ≡ behind-image n i) × (z .next .0 ≡ behind-tone (behind-image n i) t a)
+Placed n i t a r z = (r .image .0 ≡ n) × (r .tone .0 ≡ behind-image n i) × (z .next .0 ≡ behind-gain n i t a)
 
 -- each position fits in a byte, since the last one does
-first-fits : (n i t a m : ℕ) → m ≡ n → behind-tone (behind-image n i) t a ≤ 127 → m < 2 ^ 8
+first-fits : (n i t a m : ℕ) → m ≡ n → behind-gain n i t a ≤ 127 → m < 2 ^ 8
 first-fits n i t a m e ok = omega (arith, e, ok)
 
-tone-fits : (n i t a m : ℕ) → m ≡ behind-image n i → behind-tone (behind-image n i) t a ≤ 127 → m < 2 ^ 8
+tone-fits : (n i t a m : ℕ) → m ≡ behind-image n i → behind-gain n i t a ≤ 127 → m < 2 ^ 8
 tone-fits n i t a m e ok = omega (arith, e, ok)
 
-next-fits : (n i t a m : ℕ) → m ≡ behind-tone (behind-image n i) t a → behind-tone (behind-image n i) t a ≤ 127 → m < 2 ^ 8
+next-fits : (n i t a m : ℕ) → m ≡ behind-gain n i t a → behind-gain n i t a ≤ 127 → m < 2 ^ 8
 next-fits n i t a m e ok = omega (arith, e, ok)
 
 -- the contract that the proof cites
@@ -96,7 +96,7 @@ module _ {M : Type 1} (𝓤 : URA M) (H : Heap 𝓤) (A : Atoms 𝓤) (W : Given
   lies-out = id⊢ 𝓤 _
 
 module _ {M : Type 1} (𝓤 : URA M) (H : Heap 𝓤) (A : Atoms 𝓤) (W : Given 𝓤 H A) (at-mem : Memory → SProp 𝓤) (run : Routine → Fun 𝓤) (p : PropertyPosition) (i t a : ℕ)
-    (i-fits : i < 2 ^ 8) (t-fits : t < 2 ^ 8) (a-fits : a < 2 ^ 8) (ok : behind-tone (behind-image (p .0) i) t a ≤ 127) where
+    (i-fits : i < 2 ^ 8) (t-fits : t < 2 ^ 8) (a-fits : a < 2 ^ 8) (ok : behind-gain (p .0) i t a ≤ 127) where
   -- the first position
   abbrev n : ℕ
   n = p .0

@@ -40,7 +40,7 @@ use denote.Triple.Walked.{says, needs, Stays, stay-ref, stay-none, walkOf, AllGo
 use denote.Exit.{yes}
 use Rattle.panel.proofs.PropertyPosition as P
 use Rattle.panel.proofs.PropertyPosition.Laws as P′
-use Rattle.gain_positions.specs.Positions.{behind-image, behind-tone}
+use Rattle.gain_positions.specs.Positions.{behind-image, behind-tone, behind-gain}
 use Rattle.gain_positions.specs.declared.Positions.{Positions}
 use Rattle.gain_positions.specs.declared.GainPositions.{GainPositions}
 use Rattle.gain_positions.proofs.Positions as T
@@ -68,13 +68,13 @@ stayed = (stay-ref (0 ∷ []) tt (plain (λ _. T.the-row)), (stay-none (λ _. u8
 
 -- ---- the numbers: each position fits in a byte, since the last one does
 
-first-fits : (n i t a : ℕ) → behind-tone (behind-image n i) t a ≤ 127 → n < 2 ^ 8
+first-fits : (n i t a : ℕ) → behind-gain n i t a ≤ 127 → n < 2 ^ 8
 first-fits n i t a ok = omega (arith, ok)
 
-image-fits : (n i t a : ℕ) → behind-tone (behind-image n i) t a ≤ 127 → behind-image n i ≤ 127
+image-fits : (n i t a : ℕ) → behind-gain n i t a ≤ 127 → behind-image n i ≤ 127
 image-fits n i t a ok = omega (arith, ok)
 
-tone-fits : (n i t a r : ℕ) → r ≡ behind-image n i → behind-tone (behind-image n i) t a ≤ 127 → behind-tone r t a ≤ 127
+tone-fits : (n i t a r : ℕ) → r ≡ behind-image n i → behind-gain n i t a ≤ 127 → behind-tone r t a ≤ 127
 tone-fits n i t a r e ok = omega (arith, e, ok)
 
 -- ---- the contracts that the proof cites
@@ -94,7 +94,7 @@ module _ {M : Type 1} (𝓤 : URA M) (H : Heap 𝓤) (A : Atoms 𝓤) (at-mem : 
   tone-of n t a r = exE 𝓤 _ (λ ws. snd∗ 𝓤 (sem 𝓤 H A (lasts tone.ended tt (n, (t, (a, tt))) ws)) (fact 𝓤 (r ≡ behind-tone n t a)))
 
 module _ {M : Type 1} (𝓤 : URA M) (H : Heap 𝓤) (A : Atoms 𝓤) (W : Given 𝓤 H A) (at-mem : Memory → SProp 𝓤) (run : Routine → Fun 𝓤) (κ : Lft) (q : Share) (b o : ℕ) (γ : GName) (h : Positions) (i t a : ℕ)
-    (i-fits : i < 2 ^ 8) (t-fits : t < 2 ^ 8) (a-fits : a < 2 ^ 8) (ok : behind-tone (behind-image (h .next .0) i) t a ≤ 127) where
+    (i-fits : i < 2 ^ 8) (t-fits : t < 2 ^ 8) (a-fits : a < 2 ^ 8) (ok : behind-gain (h .next .0) i t a ≤ 127) where
   -- the first position
   abbrev n : ℕ
   n = h .next .0
