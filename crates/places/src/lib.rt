@@ -12,6 +12,7 @@ ghost use Prim.Native.Nat.{ℕ, _+_, _≤_};
 ghost use Rattle.panel.specs.Items.{has, shape};
 ghost use Rattle.length.specs.Properties.{second-colr-count, alternates-count, irot-count, imir-count};
 ghost use Rattle.places.specs.Alternates.{toned-alternates};
+ghost use Rattle.gain_positions.specs.Positions.{behind-image};
 ghost use Rattle.places.specs.Roles.{Placed, Fit};
 ghost use Rattle.places.specs.Places.{options-at, Options-fit, image-at, tone-at, Image-fits, Tone-fits};
 ghost use Rattle.panel.specs.Of.{Lent, panel-of, part, cicp-of, light-of, alternate-of, gain-of};
@@ -30,10 +31,12 @@ use crate::pictures::option_places;
 use crate::positions::ImagePlaces;
 use crate::positions::PlacedImage;
 use crate::positions::PlacedTone;
-use crate::positions::Positions;
 use crate::positions::TonePlaces;
 use crate::positions::image_places;
 use crate::positions::tone_places;
+use gain_positions::PlacedGain;
+use gain_positions::Positions;
+use gain_positions::gain_from;
 use octets::when;
 use panel::Panel;
 use panel::PropertyPosition;
@@ -95,6 +98,18 @@ fn panel_options(panel: Panel, positions: Positions) -> PlacedOptions
     option_places(positions, colr as u8, irot as u8, imir as u8, clli as u8)
 }
 
+// Where the gain image's properties begin and where the tone map's do: the record of positions is lent and raised behind them.
+fn gain_begins(gain: MaybeGainMap, s: Shape, next: PropertyPosition) -> PlacedGain
+    requires { ⌜ next .0 + 9 ≤ 127 ⌝ }
+    ensures { λ r. ⌜ (r .image .0 ≡ next .0) × (r .tone .0 ≡ behind-image (next .0) (cond (s .gain) 1 0)) ⌝ }
+    ensures { λ r. ⌜ r .tone .0 ≤ next .0 + 5 ⌝ }
+{
+    let image = when(s.gain, 1);
+    let tone = when(s.tone, 1);
+    let alternates = gain_alternates(gain);
+    gain_from(next, image as u8, tone as u8, alternates as u8)
+}
+
 // The places of the gain image's properties, where there is one.
 fn gain_image(s: Shape, positions: Positions) -> PlacedImage
     requires { ⌜ positions .next .0 + 5 ≤ 127 ⌝ }
@@ -131,8 +146,11 @@ pub fn places_of(panel: Panel, s: Shape) -> Places
     );
     let alpha = alpha_places(color.positions, 1);
     let options = panel_options(panel, alpha.positions);
-    let image = gain_image(s, options.positions);
-    let tone = gain_tone(gain, s, image.positions);
+    let begins = gain_begins(gain, s, options.positions.next);
+    let first = begins.image;
+    let second = begins.tone;
+    let image = gain_image(s, Positions { next: first });
+    let tone = gain_tone(gain, s, Positions { next: second });
     let a = color.places;
     let b = alpha.places;
     let c = options.places;

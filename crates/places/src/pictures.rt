@@ -2,9 +2,9 @@
 ghost use mathlib.Core.Path.{_≡_};
 ghost use Prim.Native.Nat.{_+_, _*_, _≤_};
 ghost use Rattle.places.specs.Places.{color-at, alpha-at, options-at};
-use crate::positions::Positions;
 use crate::positions::take;
 use boxes::association::Run;
+use gain_positions::Positions;
 
 // The colour picture's properties.
 pub struct ColorPlaces {

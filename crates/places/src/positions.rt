@@ -1,13 +1,10 @@
-// The next free property position, and the positions of the gain map's properties. The record goes in by value and comes back raised.
+// The next positions of the record, and the positions of the gain map's properties. The record goes in by value and comes back raised.
 ghost use mathlib.Core.Path.{_≡_};
 ghost use Prim.Native.Nat.{_+_, _*_, _≤_};
 ghost use Rattle.places.specs.Places.{run-at, image-at, tone-at};
 use boxes::association::Run;
+use gain_positions::Positions;
 use panel::PropertyPosition;
-
-pub struct Positions {
-    pub next: PropertyPosition,
-}
 
 // A run, and the positions behind it.
 pub struct Taken {

@@ -5,6 +5,7 @@ use mathlib.Core.Bool.{cond}
 use Prim.Native.Nat.{ℕ, _+_}
 use Rattle.places.proofs.Roles.{placed-of, color-fits, alpha-fits}
 use Rattle.places.specs.Places.{alpha-at, options-at, image-at, tone-at}
+use Rattle.gain_positions.specs.Positions.{behind-image}
 use Rattle.length.specs.Properties.{second-colr-count, irot-count, imir-count}
 use Rattle.panel.specs.Of.{Lent, panel-of}
 use Rattle.panel.specs.Items.{has, shape}
@@ -16,8 +17,9 @@ use Rattle.places.proofs.places_of.Tie as tie
 returns : tie.Need-returns
 unfolding panel-of
 returns c =
-    let c5 = c .before .before .before .before .before in
-    let c4 = c5 .before in
+    let c6 = c .before .before .before .before .before in
+    let c5 = c6 .before in
+    let c4 = c5 .before .before .before in
     let c3 = c4 .before in
     let c2 = c3 .before in
     let c1 = c2 .before in
@@ -33,12 +35,13 @@ returns c =
     let o = p .metadata .orientation in
     let light = cond {A = ℕ} (has (p .metadata .light)) 1 0 in
     let n3 = (c3 .panel-options .ensures) .0 (l .icc) .1 ∙ ap (λ (n : ℕ). n + k + irot-count o + imir-count o + light) n2 in
-    let n4 = (c4 .gain-image .ensures) .0 .1 ∙ ap (λ (n : ℕ). n + g + g + g + g + g) n3 in
+    let n4 = (c4 .gain-begins .ensures) .0 .0 ∙ n3 in
+    let n5 = (c4 .gain-begins .ensures) .0 .1 ∙ ap (λ (n : ℕ). behind-image n g) n3 in
     let options = (c3 .panel-options .ensures) .0 (l .icc) .0 ∙ ap (λ (n : ℕ). options-at n k (irot-count o) (imir-count o) light) n2 in
-    let image = (c4 .gain-image .ensures) .0 .0 ∙ ap (λ (n : ℕ). image-at n g) n3 in
-    let tone = (c5 .gain-tone .ensures) .0 l ∙ ap (λ (n : ℕ). tone-at n (cond {A = ℕ} (s .tone) 1 0) (toned-alternates (p .gain))) n4 in
+    let image = (c5 .gain-image .ensures) .0 .0 ∙ ap (λ (n : ℕ). image-at n g) n4 in
+    let tone = (c6 .gain-tone .ensures) .0 l ∙ ap (λ (n : ℕ). tone-at n (cond {A = ℕ} (s .tone) 1 0) (toned-alternates (p .gain))) n5 in
     placed-of p s _ h (λ i. record { color = (c1 .color-places .ensures) .0 i; alpha = alpha i; options = options i; image = image i; tone = tone i }) in
-    (given-lent, record { color = color-fits ((c1 .color-places .ensures) .0); alpha = alpha-fits alpha; options = (c3 .panel-options .ensures) .1 .0; image = (c4 .gain-image .ensures) .1 .0; tone = (c5 .gain-tone .ensures) .1 })
+    (given-lent, record { color = color-fits ((c1 .color-places .ensures) .0); alpha = alpha-fits alpha; options = (c3 .panel-options .ensures) .1 .0; image = (c5 .gain-image .ensures) .1 .0; tone = (c6 .gain-tone .ensures) .1 })
 
 pub places-of-spec : {M : Type 1} → statement M
-places-of-spec = tie.close (tie.spec (λ c κs. search needs) (λ c κs. search needs) (λ c κs. search needs) (λ c κs. search needs) (λ c κs. search needs) returns)
+places-of-spec = tie.close (tie.spec (λ c κs. search needs) (λ c κs. search needs) (λ c κs. search needs) (λ c κs. search needs) (λ c κs. search needs) (λ c κs. search needs) returns)
