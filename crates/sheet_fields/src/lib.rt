@@ -1,4 +1,6 @@
 // The fields of a panel sheet, each read from a cursor on. A reading that has met a refusal stays at it: what is read after that says nothing.
+pub mod code;
+
 ghost use mathlib.Core.Path.{_≡_};
 ghost use Prim.Native.Nat.{_+_, _*_, _^_, _≤_, _<_};
 ghost use lib.ListN.{length, take, drop};
