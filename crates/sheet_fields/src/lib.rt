@@ -1,5 +1,6 @@
 // The fields of a panel sheet, each read from a cursor on. A reading that has met a refusal stays at it: what is read after that says nothing.
 pub mod code;
+pub mod optional;
 
 ghost use mathlib.Core.Path.{_≡_};
 ghost use Prim.Native.Nat.{_+_, _*_, _^_, _≤_, _<_};
