@@ -55,8 +55,8 @@ pub fn read_sheet(sheet: &[u8], color: &mut [u32], alpha: &mut [u32]) -> SheetRe
     requires { ⌜ length (now sheet) ≤ 4 * length (now color) ⌝ }
     requires { ⌜ length (now sheet) ≤ 4 * length (now alpha) ⌝ }
     ensures { λ r. ⌜ Reads (now (sheet .entry)) start fields (panel-said (now (sheet .entry)) r (now (color .exit)) (now (alpha .exit))) (r .next) ⌝ }
-    ensures { λ r. ⌜ r .pictures .«color_count» ≤ length (now (color .entry)) ⌝ }
-    ensures { λ r. ⌜ r .pictures .«alpha_count» ≤ length (now (alpha .entry)) ⌝ }
+    ensures { λ r. ⌜ r .pictures .«color_count» ≤ length (now (color .exit)) ⌝ }
+    ensures { λ r. ⌜ r .pictures .«alpha_count» ≤ length (now (alpha .exit)) ⌝ }
 {
     let m = read_map(sheet, Cursor { at: 0, refusal: 0 });
     let map = m.map;

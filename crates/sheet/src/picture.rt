@@ -1,6 +1,5 @@
 // The fields that are always there: the grid, and both pictures with their records, lengths and bytes.
 ghost use Prim.Native.Nat.{_*_, _^_, _≤_, _<_};
-ghost use mathlib.Core.Path.{_≡_};
 ghost use lib.ListN.{length};
 ghost use Rattle.sheet_fields.specs.Cursor.{Reads};
 ghost use Rattle.sheet.specs.Sheet.{dims, pictures};
@@ -72,10 +71,8 @@ pub fn read_pictures(
     requires { ⌜ length (now sheet) ≤ 4 * length (now color) ⌝ }
     requires { ⌜ length (now sheet) ≤ 4 * length (now alpha) ⌝ }
     ensures { λ r. ⌜ Reads (now (sheet .entry)) c (pictures n) (pictures-of (now (sheet .entry)) (r .spans) (now (color .exit)) (now (alpha .exit))) (r .next) ⌝ }
-    ensures { λ r. ⌜ r .spans .«color_count» ≤ length (now (color .entry)) ⌝ }
-    ensures { λ r. ⌜ r .spans .«alpha_count» ≤ length (now (alpha .entry)) ⌝ }
-    ensures { λ _. ⌜ length (now (color .exit)) ≡ length (now (color .entry)) ⌝ }
-    ensures { λ _. ⌜ length (now (alpha .exit)) ≡ length (now (alpha .entry)) ⌝ }
+    ensures { λ r. ⌜ r .spans .«color_count» ≤ length (now (color .exit)) ⌝ }
+    ensures { λ r. ⌜ r .spans .«alpha_count» ≤ length (now (alpha .exit)) ⌝ }
 {
     let color_hvcc = read_string(sheet, c);
     let alpha_hvcc = read_string(sheet, color_hvcc.next);

@@ -89,7 +89,10 @@ fn known_orientation(code: u8, c: Cursor) -> OrientationRead
     ensures { λ r. ⌜ ((s : List ℕ) → Reads s c (known (orientation-named code)) (r .orientation) (r .next)) ⌝ }
 {
     match orientation_named(code) {
-        MaybeOrientation::Some(orientation) => OrientationRead { orientation, next: c },
+        MaybeOrientation::Some(orientation) => OrientationRead {
+            orientation,
+            next: c,
+        },
         MaybeOrientation::None => OrientationRead {
             orientation: Orientation::Normal,
             next: refused(c, 13),
@@ -111,7 +114,10 @@ fn known_full_range(code: u8, c: Cursor) -> RangeRead
     ensures { λ r. ⌜ ((s : List ℕ) → Reads s c (known (yes-no code)) (r .«full_range») (r .next)) ⌝ }
 {
     match yes_no(code) {
-        MaybeBool::Some(full_range) => RangeRead { full_range, next: c },
+        MaybeBool::Some(full_range) => RangeRead {
+            full_range,
+            next: c,
+        },
         MaybeBool::None => RangeRead {
             full_range: false,
             next: refused(c, 13),

@@ -171,7 +171,6 @@ pub fn read_lengths(sheet: &[u8], c: Cursor, n: u32, out: &mut [u32]) -> Lengths
     ensures { λ r. ⌜ Reads (now (sheet .entry)) c (lengths n) (take (r .count) (now (out .exit))) (r .next) ⌝ }
     ensures { λ r. ⌜ r .sum ≡ total (take (r .count) (now (out .exit))) ⌝ }
     ensures { λ r. ⌜ r .count ≤ length (now (out .exit)) ⌝ }
-    ensures { λ _. ⌜ length (now (out .exit)) ≡ length (now (out .entry)) ⌝ }
 {
     let x = read_bytes(sheet, c, 4 * (n as usize));
     let span = x.span;

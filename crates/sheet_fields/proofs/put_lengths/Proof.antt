@@ -20,12 +20,13 @@ loop-again : tie.Need-loop-again Inv-loop μ-loop
 loop-again c =
     let l = c .before .before .loop in
     let x = c .before .before .before .before .before .args .x .now in
-    let h : l .i < length (l .out) = omega arith in
-    (omega arith,
+    let h : l .i < length (l .out) = omega arith in (
+      omega arith,
       length-set (l .out) (l .i) (c .length-at .result) ∙ l .inv .1,
       words-put (l .i) (c .length-at .result) x (l .out) h (c .length-at .ensures) (l .inv .2),
       omega (arith, words-sum (l .i) x, c .length-at .ensures),
-      omega arith)
+      omega arith,
+    )
 
 same-length : tie.Need-same-length Inv-loop μ-loop
 same-length c = c .before .loop .inv .1

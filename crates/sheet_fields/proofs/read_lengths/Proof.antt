@@ -32,9 +32,10 @@ returns c =
     let w : words count (p .part .result .now) ≡ words count x = ap (words count) (p .part .ensures) in
     let n : b .read-bytes .result .next .refusal ≡ 0 → a .n ≡ count = λ e. omega (arith, b .read-bytes .ensures .1 .1 e, ap length (p .part .ensures)) in
     let k = l .put-lengths .ensures in
-    let s : length (p .part .result .now) ≤ length (a .sheet .now) = rw (p .part .ensures) (span-within (a .sheet .now) (b .read-bytes .result .span)) in
-    (as-far (λ e. ap (λ k. words k x) (n e) ∙ sym w ∙ sym (k .0)) (goes-on _ (b .read-bytes .ensures .0) done),
-      (k .1 .0 ∙ ap total (sym (k .0)), (omega arith, k .1 .1)))
+    let s : length (p .part .result .now) ≤ length (a .sheet .now) = rw (p .part .ensures) (span-within (a .sheet .now) (b .read-bytes .result .span)) in (
+      as-far (λ e. ap (λ k. words k x) (n e) ∙ sym w ∙ sym (k .0)) (goes-on _ (b .read-bytes .ensures .0) done),
+      (k .1 .0 ∙ ap total (sym (k .0)), omega (arith, k .1 .1)),
+    )
 
 pub read-lengths-spec : {M : Type 1} → statement M
 read-lengths-spec = tie.close (tie.spec (λ c. search needs) (λ c κs. search needs) (λ c κs. search needs) put-lengths-requires (λ c. search needs) returns)

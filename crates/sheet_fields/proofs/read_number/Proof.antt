@@ -23,9 +23,10 @@ returns c =
     let p = c .before in
     let b = p .before .before .before in
     let a = b .before .before .args in
-    let n : length (p .part .result .now) ≤ a .k = rw (p .part .ensures) (omega (arith, span-size (a .sheet .now) (b .read-bytes .result .span))) in
-    (goes-on _ (b .read-bytes .ensures .0) (as-well (sym (c .value-of .ensures .0 ∙ ap value (p .part .ensures))) done),
-      within n (c .value-of .ensures .1))
+    let n : length (p .part .result .now) ≤ a .k = rw (p .part .ensures) (omega (arith, span-size (a .sheet .now) (b .read-bytes .result .span))) in (
+      goes-on _ (b .read-bytes .ensures .0) (as-well (sym (c .value-of .ensures .0 ∙ ap value (p .part .ensures))) done),
+      within n (c .value-of .ensures .1),
+    )
 
 pub read-number-spec : {M : Type 1} → statement M
 read-number-spec = tie.close (tie.spec (λ c κs. search needs) (λ c κs. search needs) value-of-requires returns)

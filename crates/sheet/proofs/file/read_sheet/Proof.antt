@@ -1,79 +1,32 @@
+-- Section by section, to the end.
 use borrow.Author.Needs.{needs}
-use native.Mathlib.Omega.{arith}
+use Rattle.checks.proofs.Tests.{below}
+use Rattle.sheet.specs.Sheet.{fields}
+use Rattle.sheet_fields.proofs.Reading.{goes-on, as-well}
+use Rattle.sheet.proofs.Panels.{sections}
 use Rattle.sheet.proofs.file.read_sheet.Statement.{statement}
 use Rattle.sheet.proofs.file.read_sheet.Tie as tie
-use Rattle.sheet.proofs.file.read_sheet.Reads as reads
-use Rattle.sheet.proofs.file.read_sheet.Lts as lts
-use Rattle.sheet.proofs.color.read_color.Reads as read-color-reads
-use Rattle.sheet.proofs.file.at_end.Reads as at-end-reads
-use Rattle.sheet.proofs.gain.read_maybe_gain.Reads as read-maybe-gain-reads
-use Rattle.sheet.proofs.map.read_map.Reads as read-map-reads
-use Rattle.sheet.proofs.metadata.read_metadata.Reads as read-metadata-reads
-use Rattle.sheet.proofs.picture.read_dims.Reads as read-dims-reads
-use Rattle.sheet.proofs.picture.read_pictures.Reads as read-pictures-reads
-use Rattle.sheet_fields.proofs.code.read_depth.Reads as read-depth-reads
 
--- src/file.rt:61:9
-read-map-requires : tie.Need-read-map-requires
-read-map-requires c κs = search needs
-
--- src/file.rt:63:9
-read-dims-requires : tie.Need-read-dims-requires
-read-dims-requires c κs = search needs
-
--- src/file.rt:65:9
-read-depth-requires : tie.Need-read-depth-requires
-read-depth-requires c κs = search needs
-
--- src/file.rt:66:42
 mul-read-pictures : tie.Need-mul-read-pictures
-mul-read-pictures c = search needs
+mul-read-pictures c =
+    let d = c .before .before .before in
+    record { fits = below 16 (d .read-dims .ensures .1 .1) (d .read-dims .ensures .1 .0) }
 
--- src/file.rt:66:9
-read-pictures-requires : tie.Need-read-pictures-requires
-read-pictures-requires c κs = search needs
-
--- src/file.rt:67:9
-read-color-requires : tie.Need-read-color-requires
-read-color-requires c κs = search needs
-
--- src/file.rt:68:9
-read-metadata-requires : tie.Need-read-metadata-requires
-read-metadata-requires c κs = search needs
-
--- src/file.rt:69:9
-read-maybe-gain-requires : tie.Need-read-maybe-gain-requires
-read-maybe-gain-requires c κs = search needs
-
--- src/file.rt:70:9
-at-end-requires : tie.Need-at-end-requires
-at-end-requires c κs = search needs
-
--- src/file.rt:54:1
-same-length : tie.Need-same-length
-same-length c = search needs
-
--- src/file.rt:54:1
-same-length-2 : tie.Need-same-length-2
-same-length-2 c = search needs
-
--- src/file.rt:54:1
 returns : tie.Need-returns
-returns c = search needs
+unfolding fields
+returns c =
+    let e = c .before .before .before .before .before .before in
+    let g = e .before in
+    let x = g .before in
+    let l = x .before in
+    let p = l .before .before .before .before .before in
+    let k = p .before .before .before .before in
+    let d = k .before .before in
+    let m = d .before .before in (
+      as-well (sections _ _ _ _)
+          (goes-on _ (m .read-map .ensures) (goes-on _ (d .read-dims .ensures .0) (goes-on _ (k .read-depth .ensures) (goes-on _ (p .read-pictures .ensures .0) (goes-on _ (l .read-color .ensures) (goes-on _ (x .read-metadata .ensures) (goes-on _ (g .read-maybe-gain .ensures) (e .at-end .ensures _)))))))),
+      (p .read-pictures .ensures .1 .0, p .read-pictures .ensures .1 .1),
+    )
 
 pub read-sheet-spec : {M : Type 1} → statement M
-read-sheet-spec =
-    tie.close
-    (tie.spec
-    read-map-requires
-    read-dims-requires
-    read-depth-requires
-    mul-read-pictures
-    read-pictures-requires
-    read-color-requires
-    read-metadata-requires
-    read-maybe-gain-requires
-    at-end-requires
-    same-length
-    same-length-2
-    returns)
+read-sheet-spec = tie.close (tie.spec (λ c κs. search needs) (λ c κs. search needs) (λ c κs. search needs) mul-read-pictures (λ c κs. search needs) (λ c κs. search needs) (λ c κs. search needs) (λ c κs. search needs) (λ c κs. search needs) (λ c. search needs) (λ c. search needs) returns)

@@ -1,83 +1,24 @@
+-- The writing call, with the spans as byte parts.
 use borrow.Author.Needs.{needs}
-use native.Mathlib.Omega.{arith}
+use Rattle.sheet.proofs.Panels.{lent-alike, promised-alike}
 use Rattle.sheet.proofs.file.write_panel.Statement.{statement}
 use Rattle.sheet.proofs.file.write_panel.Tie as tie
-use Rattle.sheet.proofs.file.write_panel.Reads as reads
-use Rattle.sheet.proofs.file.write_panel.Lts as lts
-use Rattle.sheet_fields.proofs.part.Reads as part-reads
-use Rattle.wrap.proofs.wrap_hevc_grid_with_alpha.Reads as wrap-hevc-grid-with-alpha-reads
 
--- src/file.rt:122:9
-part-requires : tie.Need-part-requires
-part-requires c κs = search needs
-
--- src/file.rt:123:9
-part-requires-2 : tie.Need-part-requires-2
-part-requires-2 c κs = search needs
-
--- src/file.rt:126:9
-part-requires-3 : tie.Need-part-requires-3
-part-requires-3 c κs = search needs
-
--- src/file.rt:127:9
-part-requires-4 : tie.Need-part-requires-4
-part-requires-4 c κs = search needs
-
--- src/file.rt:128:9
-part-requires-5 : tie.Need-part-requires-5
-part-requires-5 c κs = search needs
-
--- src/file.rt:129:9
-part-requires-6 : tie.Need-part-requires-6
-part-requires-6 c κs = search needs
-
--- src/file.rt:130:9
-part-requires-7 : tie.Need-part-requires-7
-part-requires-7 c κs = search needs
-
--- src/file.rt:131:9
-part-requires-8 : tie.Need-part-requires-8
-part-requires-8 c κs = search needs
-
--- src/file.rt:132:9
-part-requires-9 : tie.Need-part-requires-9
-part-requires-9 c κs = search needs
-
--- src/file.rt:133:9
-part-requires-10 : tie.Need-part-requires-10
-part-requires-10 c κs = search needs
-
--- src/file.rt:134:9
-part-requires-11 : tie.Need-part-requires-11
-part-requires-11 c κs = search needs
-
--- src/file.rt:120:5
-wrap-hevc-grid-with-alpha-requires : tie.Need-wrap-hevc-grid-with-alpha-requires
-wrap-hevc-grid-with-alpha-requires c κs = search needs
-
--- src/file.rt:97:1
-same-length : tie.Need-same-length
-same-length c = search needs
-
--- src/file.rt:97:1
 returns : tie.Need-returns
-returns c = search needs
+returns c =
+    let w = c .before .before in
+    let p11 = w .before .before in
+    let p10 = p11 .before in
+    let p9 = p10 .before in
+    let p8 = p9 .before in
+    let p7 = p8 .before in
+    let p6 = p7 .before in
+    let p5 = p6 .before in
+    let p4 = p5 .before in
+    let p3 = p4 .before in
+    let p2 = p3 .before in
+    let p1 = p2 .before in
+    promised-alike _ (lent-alike _ _ (p1 .part .ensures) (p2 .part2 .ensures) (p3 .part3 .ensures) (p4 .part4 .ensures) (p5 .part5 .ensures) (p6 .part6 .ensures) (p7 .part7 .ensures) (p8 .part8 .ensures) (p9 .part9 .ensures) (p10 .part10 .ensures) (p11 .part11 .ensures)) (w .wrap-hevc-grid-with-alpha .ensures .0)
 
 pub write-panel-spec : {M : Type 1} → statement M
-write-panel-spec =
-    tie.close
-    (tie.spec
-    part-requires
-    part-requires-2
-    part-requires-3
-    part-requires-4
-    part-requires-5
-    part-requires-6
-    part-requires-7
-    part-requires-8
-    part-requires-9
-    part-requires-10
-    part-requires-11
-    wrap-hevc-grid-with-alpha-requires
-    same-length
-    returns)
+write-panel-spec = tie.close (tie.spec (λ c κs. search needs) (λ c κs. search needs) (λ c κs. search needs) (λ c κs. search needs) (λ c κs. search needs) (λ c κs. search needs) (λ c κs. search needs) (λ c κs. search needs) (λ c κs. search needs) (λ c κs. search needs) (λ c κs. search needs) (λ c κs. search needs) (λ c. search needs) returns)
