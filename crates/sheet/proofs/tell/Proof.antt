@@ -1,0 +1,15 @@
+-- By what is answered.
+use borrow.Author.Needs.{needs}
+use mathlib.Core.Path.{sym, ap, _∙_}
+use Rattle.panel.specs.Answer.{refused, says}
+use Rattle.sheet.proofs.tell.Statement.{statement}
+use Rattle.sheet.proofs.tell.Tie as tie
+
+returns : tie.Need-returns
+returns c = ap says (sym (c .before .a .given .1))
+
+returns-2 : tie.Need-returns-2
+returns-2 c = ap refused (c .refusal-number .ensures) ∙ ap says (sym (c .before .before .a2 .given .1))
+
+pub tell-spec : {M : Type 1} → statement M
+tell-spec = tie.close (tie.spec (λ c. search needs) (λ c. search needs) (λ c κs. search needs) returns returns-2)

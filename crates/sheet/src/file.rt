@@ -1,0 +1,137 @@
+// The panel that a sheet says, and its file.
+ghost use mathlib.Core.Path.{_≡_};
+ghost use mathlib.Core.List.{List};
+ghost use Prim.Native.Nat.{ℕ, _*_, _≤_};
+ghost use lib.ListN.{length};
+ghost use Rattle.panel.specs.Panel.{Panel as PurePanel};
+ghost use Rattle.panel.specs.Of.{panel-of};
+ghost use Rattle.panel.specs.Items.{ordinary};
+ghost use Rattle.panel.specs.Answer.{says, Promised};
+ghost use Rattle.sheet_fields.specs.Cursor.{Reads};
+ghost use Rattle.sheet.specs.Sheet.{end, fields};
+ghost use Rattle.sheet.specs.Said.{start, parts, panel-said};
+use crate::color::read_color;
+use crate::gain::GainSpans;
+use crate::gain::read_maybe_gain;
+use crate::map::read_map;
+use crate::metadata::read_metadata;
+use crate::picture::PictureSpans;
+use crate::picture::read_dims;
+use crate::picture::read_pictures;
+use panel::Answer;
+use panel::Panel;
+use sheet_fields::Cursor;
+use sheet_fields::Span;
+use sheet_fields::code::read_depth;
+use sheet_fields::left;
+use sheet_fields::part;
+use sheet_fields::refused;
+use wrap::wrap_hevc_grid_with_alpha;
+
+// The numbers of a panel, where its byte parts lie, and the cursor behind all fields.
+pub struct SheetRead {
+    pub panel: Panel,
+    pub pictures: PictureSpans,
+    pub icc: Span,
+    pub exif: Span,
+    pub gain: GainSpans,
+    pub next: Cursor,
+}
+
+// The cursor at the end of the fields: refused where bytes are left over.
+fn at_end(sheet: &[u8], c: Cursor) -> Cursor
+    ensures { λ r. ⌜ ((p : PurePanel) → Reads (now (sheet .entry)) c (end p) p r) ⌝ }
+{
+    let at = c.at;
+    if left(sheet, at) != 0 {
+        return refused(c, 14);
+    }
+    c
+}
+
+// All fields of a sheet. The lengths go to two lists that have an entry for every four bytes of the sheet.
+// Above 40 lines by its fields, one to a line.
+pub fn read_sheet(sheet: &[u8], color: &mut [u32], alpha: &mut [u32]) -> SheetRead
+    requires { ⌜ length (now sheet) ≤ 4 * length (now color) ⌝ }
+    requires { ⌜ length (now sheet) ≤ 4 * length (now alpha) ⌝ }
+    ensures { λ r. ⌜ Reads (now (sheet .entry)) start fields (panel-said (now (sheet .entry)) r (now (color .exit)) (now (alpha .exit))) (r .next) ⌝ }
+    ensures { λ r. ⌜ r .pictures .«color_count» ≤ length (now (color .exit)) ⌝ }
+    ensures { λ r. ⌜ r .pictures .«alpha_count» ≤ length (now (alpha .exit)) ⌝ }
+{
+    let m = read_map(sheet, Cursor { at: 0, refusal: 0 });
+    let map = m.map;
+    let d = read_dims(sheet, m.next);
+    let dims = d.dims;
+    let k = read_depth(sheet, d.next);
+    let p = read_pictures(sheet, k.next, dims.rows * dims.cols, color, alpha);
+    let c = read_color(sheet, p.next, map);
+    let x = read_metadata(sheet, c.next, map);
+    let g = read_maybe_gain(sheet, x.next, map);
+    let next = at_end(sheet, g.next);
+    let bit_depth = k.depth;
+    let pictures = p.spans;
+    let color_meta = c.color;
+    let icc = c.icc;
+    let metadata = x.metadata;
+    let exif = x.exif;
+    let gain_map = g.gain;
+    let gain = g.spans;
+    SheetRead {
+        panel: Panel {
+            dims,
+            bit_depth,
+            color_meta,
+            metadata,
+            gain_map,
+        },
+        pictures,
+        icc,
+        exif,
+        gain,
+        next,
+    }
+}
+
+// The file of a sheet that is read, in the output.
+// Above 8 calls by its parts: each byte part is a span of the sheet.
+pub fn write_panel(
+    sheet: &[u8],
+    r: SheetRead,
+    color_lengths: &[u32],
+    alpha_lengths: &[u32],
+    out: &mut [u8],
+) -> Answer
+    ensures { λ a. ⌜ Promised ordinary (panel-of (r .panel) (parts (now (sheet .entry)) r (now («color_lengths» .entry)) (now («alpha_lengths» .entry)))) (now (out .entry)) (says a) (now (out .exit)) ⌝ }
+{
+    let p = r.pictures;
+    let g = r.gain;
+    let panel = r.panel;
+    let icc = r.icc;
+    let exif = r.exif;
+    let color_hvcc = p.color_hvcc;
+    let alpha_hvcc = p.alpha_hvcc;
+    let color_samples = p.color_samples;
+    let alpha_samples = p.alpha_samples;
+    let gain_hvcc = g.hvcc;
+    let gain_sample = g.sample;
+    let gain_xmp = g.xmp;
+    let gain_tmap = g.tmap;
+    let alternate_icc = g.alternate_icc;
+    wrap_hevc_grid_with_alpha(
+        panel,
+        part(sheet, color_hvcc),
+        part(sheet, alpha_hvcc),
+        color_lengths,
+        alpha_lengths,
+        part(sheet, color_samples),
+        part(sheet, alpha_samples),
+        part(sheet, icc),
+        part(sheet, exif),
+        part(sheet, gain_hvcc),
+        part(sheet, gain_sample),
+        part(sheet, gain_xmp),
+        part(sheet, gain_tmap),
+        part(sheet, alternate_icc),
+        out,
+    )
+}

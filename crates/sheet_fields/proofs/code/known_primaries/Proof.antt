@@ -1,0 +1,21 @@
+-- The code stands for a value, or for nothing.
+use borrow.Author.Needs.{needs}
+use Rattle.panel.specs.Types.{maybe-primaries}
+use Rattle.codes.proofs.Chain.{so}
+use Rattle.codes.proofs.Named.{primaries-names}
+use Rattle.sheet_fields.proofs.Reading.{names, nameless}
+use Rattle.sheet_fields.proofs.code.known_primaries.Statement.{statement}
+use Rattle.sheet_fields.proofs.code.known_primaries.Tie as tie
+
+returns : tie.Need-returns
+returns c =
+    let d = c .before .before .before in
+    λ s. names _ (so maybe-primaries (primaries-names _ _ (d .from-code .ensures)) (c .before .primaries .given .1))
+
+returns-2 : tie.Need-returns-2
+returns-2 c =
+    let d = c .before .before .before in
+    λ s. rw (c .refused .ensures) (nameless _ (so maybe-primaries (primaries-names _ _ (d .from-code .ensures)) (c .before .enum-told .given .1)))
+
+pub known-primaries-spec : {M : Type 1} → statement M
+known-primaries-spec = tie.close (tie.spec (λ c κs. search needs) (λ c. search needs) (λ c. search needs) (λ c κs. search needs) returns returns-2)

@@ -1,0 +1,4 @@
+pub mod Read
+pub mod Fields
+pub mod Codes
+pub mod Cursor
