@@ -4,7 +4,7 @@
  * The file holds a colour picture in tiles, an alpha picture in tiles and, where there is one, a gain map with a
  * tone map. kahopiru_file_length answers how long the file will be, kahopiru_write writes it into room that the caller
  * lends. Both answer the same of the same panel; only kahopiru_write can find the room too short. kahopiru_tile answers
- * where among the lent samples the tile of an item id lies.
+ * where among the lent samples the tile of an item id lies. kahopiru_sheet takes a panel as one run of bytes, a sheet.
  *
  * The archive libkahopiru.a is for x86-64 with the System V calling convention (Linux, the BSDs). It allocates
  * nothing, keeps nothing between calls and calls nobody; any number of threads may call it at once.
@@ -45,6 +45,14 @@
  *   7   the id names no tile (kahopiru_tile only)
  *  13   a code names nothing: a depth, an orientation, a colour code, or a field of 0 or 1 that is neither. Codes
  *       beside an absent part are not looked at
+ *
+ * A sheet is refused with 15 if it has more than 12,288 bytes; else with the first of these that its reading meets; else
+ * with 1 or 6:
+ *
+ *  11   the sheet ends before its fields do
+ *  12   its map has a bit 9 to 15, or 6 without 5, or 7 or 8 without 6
+ *  13   a code names nothing
+ *  14   bytes are left over
  */
 #ifndef KAHOPIRU_H
 #define KAHOPIRU_H
@@ -66,7 +74,11 @@ enum {
     KAHOPIRU_FILE_LENGTH = 5,
     KAHOPIRU_OUTPUT_LENGTH = 6,
     KAHOPIRU_NO_TILE = 7,
-    KAHOPIRU_CODE = 13
+    KAHOPIRU_SHEET_ENDS = 11,
+    KAHOPIRU_SHEET_MAP = 12,
+    KAHOPIRU_CODE = 13,
+    KAHOPIRU_SHEET_BYTES_LEFT = 14,
+    KAHOPIRU_SHEET_LENGTH = 15
 };
 
 /* Depths, for bit_depth. */
@@ -186,6 +198,10 @@ kahopiru_tile_place kahopiru_tile(
     const uint32_t *alpha_lengths, size_t alpha_lengths_len,
     const uint8_t *color_samples, size_t color_samples_len,
     const uint8_t *alpha_samples, size_t alpha_samples_len);
+
+/* Writes the file of the panel that a sheet says to the front of out and answers its length; the rest of out, or all of
+   it if refused, keeps what it had. out overlaps no byte of the sheet. */
+kahopiru_answer kahopiru_sheet(const uint8_t *sheet, size_t sheet_len, uint8_t *out, size_t out_len);
 
 #ifdef __cplusplus
 }

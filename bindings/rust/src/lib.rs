@@ -121,3 +121,13 @@ pub fn tile<'a>(id: u16, color: Samples<'a>, alpha: Samples<'a>) -> Result<&'a [
     let (start, length) = (place.start as usize, place.length as usize);
     refusal::result(place.refusal, &bytes[start..start + length])
 }
+
+/// Writes the file of the panel that a sheet says to the front of `out` and answers its length.
+///
+/// A sheet is a panel as one run of bytes, at most 12,288 of them. The bytes of `out` behind the file keep what they had;
+/// if the call refuses, all of `out` does.
+pub fn write_sheet(sheet: &[u8], out: &mut [u8]) -> Result<usize, Refusal> {
+    let answer = sys::sheet(sheet, out);
+    // The file lies in `out`, so that its length is a usize.
+    refusal::result(answer.refusal, answer.length as usize)
+}

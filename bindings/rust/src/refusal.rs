@@ -2,7 +2,8 @@
 
 use std::fmt;
 
-/// Why a call refuses, in the order in which the checks are made: the first that holds is answered.
+/// Why a call refuses: the first check that holds is answered. A panel is checked in the order of the numbers 1 to 6; a
+/// sheet is read first, and refused with 15 or with the first of 11 to 14 that the reading meets.
 #[derive(Clone, Copy, Debug, PartialEq, Eq, PartialOrd, Ord, Hash)]
 #[non_exhaustive]
 pub enum Refusal {
@@ -20,11 +21,21 @@ pub enum Refusal {
     OutputLength,
     /// 7: of a tile lookup, the item id names no tile.
     NoTile,
+    /// 11: of a sheet, it ends before its fields do.
+    SheetEnds,
+    /// 12: of a sheet, its map has a bit that stands for nothing, or one without another that it needs.
+    SheetMap,
+    /// 13: of a sheet, a depth, an orientation, a colour code or a 0 or 1 stands for nothing.
+    SheetCode,
+    /// 14: of a sheet, bytes are left over behind its fields.
+    SheetBytesLeft,
+    /// 15: of a sheet, it has more than 12,288 bytes.
+    SheetLength,
 }
 
 impl Refusal {
-    /// Every refusal, in the order of the checks.
-    pub const ALL: [Refusal; 7] = [
+    /// Every refusal, by rising number.
+    pub const ALL: [Refusal; 12] = [
         Refusal::GridSide,
         Refusal::TileCount,
         Refusal::SampleLengths,
@@ -32,6 +43,11 @@ impl Refusal {
         Refusal::FileLength,
         Refusal::OutputLength,
         Refusal::NoTile,
+        Refusal::SheetEnds,
+        Refusal::SheetMap,
+        Refusal::SheetCode,
+        Refusal::SheetBytesLeft,
+        Refusal::SheetLength,
     ];
 
     /// The refusal's number, as the archive, the C header and the sheet program have it.
@@ -44,6 +60,11 @@ impl Refusal {
             Refusal::FileLength => 5,
             Refusal::OutputLength => 6,
             Refusal::NoTile => 7,
+            Refusal::SheetEnds => 11,
+            Refusal::SheetMap => 12,
+            Refusal::SheetCode => 13,
+            Refusal::SheetBytesLeft => 14,
+            Refusal::SheetLength => 15,
         }
     }
 }
@@ -58,6 +79,11 @@ impl fmt::Display for Refusal {
             Refusal::FileLength => "the file would be longer than 4,294,967,295 bytes",
             Refusal::OutputLength => "the output is shorter than the file",
             Refusal::NoTile => "the item id names no tile",
+            Refusal::SheetEnds => "the sheet ends before its fields do",
+            Refusal::SheetMap => "the sheet's map has a bit that stands for nothing, or one without another it needs",
+            Refusal::SheetCode => "a code in the sheet stands for nothing",
+            Refusal::SheetBytesLeft => "bytes are left over behind the sheet's fields",
+            Refusal::SheetLength => "the sheet has more than 12,288 bytes",
         })
     }
 }

@@ -163,6 +163,8 @@ unsafe extern "C" {
         alpha_samples: *const u8,
         alpha_samples_len: usize,
     ) -> TilePlace;
+
+    pub fn kahopiru_sheet(sheet: *const u8, sheet_len: usize, out: *mut u8, out_len: usize) -> Answer;
 }
 
 /// The length call, with any numbers and any bytes.
@@ -263,4 +265,10 @@ pub fn tile(
             alpha_samples.len(),
         )
     }
+}
+
+/// The sheet call, with any bytes.
+pub fn sheet(sheet: &[u8], out: &mut [u8]) -> Answer {
+    // SAFETY: as for `write`.
+    unsafe { kahopiru_sheet(sheet.as_ptr(), sheet.len(), out.as_mut_ptr(), out.len()) }
 }

@@ -107,7 +107,7 @@ fn short_room_is_refused_and_exact_room_is_filled() {
 
 #[test]
 fn refusals_have_numbers_and_say_what_is_wrong() {
-    for (number, refusal) in (1..).zip(Refusal::ALL) {
+    for (number, refusal) in [1, 2, 3, 4, 5, 6, 7, 11, 12, 13, 14, 15].into_iter().zip(Refusal::ALL) {
         assert_eq!(refusal.number(), number);
         let text = refusal.to_string();
         assert!(text.len() > 20 && !text.contains('\n'), "{text}");

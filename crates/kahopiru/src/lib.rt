@@ -2,6 +2,7 @@
 // codes, its byte parts lent beside them, each as a pointer and a length. A code that stands for nothing is refused with 13, before all checks.
 
 pub mod numbers;
+pub mod sheet_call;
 pub mod tile;
 
 ghost use mathlib.Core.Path.{_≡_};

@@ -12,10 +12,12 @@ mod panels;
 mod predict;
 mod random;
 mod raw;
+mod reader;
 mod run;
 mod selftest;
 mod sets;
 mod sheet;
+mod sheets;
 mod tiles;
 mod trials;
 mod upstream;
@@ -89,6 +91,19 @@ fn random(run: &mut Run, seed: u64, panels: u64) {
     println!("random panels: of {} things looked for the rarest is '{rarest}', in {count}", coverage.len());
 }
 
+/// Compares sheets and says what they were.
+fn sheets(run: &mut Run, seed: u64) {
+    let seen = sheets::run(run, seed);
+    let refused: Vec<String> =
+        seen.answers.iter().filter(|(n, _)| **n != 0).map(|(n, count)| format!("{count} with {n}")).collect();
+    let accepted = seen.answers.get(&0).unwrap_or(&0);
+    println!("sheets: {} in all; {accepted} accepted; refused: {}", seen.sheets, refused.join(", "));
+    match seen.program {
+        Some(count) => println!("panel_sheet: {count} of them through the program"),
+        None => println!("panel_sheet: the program is not built, so it was left out"),
+    }
+}
+
 fn everything(options: &Options) -> Run {
     let mut run = Run::new(options.seed);
     set("lettered trials", &mut run, trials::run);
@@ -106,6 +121,7 @@ fn everything(options: &Options) -> Run {
     println!("fenced: {fenced} panels, every part hard by memory that cannot be touched, before it and behind it");
     let lookups = tiles::run(&mut run, options.seed);
     println!("tile lookups: {lookups}");
+    sheets(&mut run, options.seed);
     set("random panels", &mut run, |run| random(run, options.seed, options.panels));
     if options.huge {
         set("huge", &mut run, huge::write);

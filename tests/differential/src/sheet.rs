@@ -1,6 +1,6 @@
 //! The panel sheet: a panel as one run of bytes, as the sheet program reads it.
 
-use crate::panels::Case;
+use crate::panels::{Case, Gain};
 use kahopiru::{Cicp, Orientation};
 
 /// The sheet of a panel. An alternate colour that is empty or has no tone map cannot be said in a sheet and is left out.
@@ -33,19 +33,50 @@ pub fn sheet(case: &Case) -> Vec<u8> {
         put16(&mut out, light.max_pic_average_light_level);
     }
     case.exif.iter().for_each(|b| bytes(&mut out, b));
-    if let Some(g) = gain {
-        bytes(&mut out, &g.hvcc);
-        bytes(&mut out, &g.sample);
-        put32(&mut out, g.width);
-        put32(&mut out, g.height);
-        out.push(g.bit_depth.code());
-        cicp(&mut out, g.cicp);
-        bytes(&mut out, &g.xmp);
-    }
+    gain.iter().for_each(|g| gain_fields(&mut out, g));
     tmap.iter().for_each(|b| bytes(&mut out, b));
     alternate.and_then(|a| a.cicp).iter().for_each(|&c| cicp(&mut out, c));
     alternate.and_then(|a| a.icc.as_ref()).iter().for_each(|b| bytes(&mut out, b));
     out
+}
+
+/// A sheet with this map, and the fields that its bits call for, whether or not the map is a good one.
+pub fn every_field(map: u16, case: &Case) -> Vec<u8> {
+    let mut out = Vec::new();
+    put16(&mut out, map);
+    always(&mut out, case);
+    let gain = case.gain.as_ref().expect("the panel has every part");
+    let other = gain.alternate.as_ref().expect("the panel has every part");
+    let light = case.light.expect("the panel has every part");
+    for bit in (0..16).filter(|bit| map >> bit & 1 == 1) {
+        match bit {
+            0 => case.color.cicp.iter().for_each(|&c| cicp(&mut out, c)),
+            1 => case.color.icc.iter().for_each(|b| bytes(&mut out, b)),
+            2 => out.push(case.orientation.code()),
+            3 => {
+                put16(&mut out, light.max_content_light_level);
+                put16(&mut out, light.max_pic_average_light_level);
+            }
+            4 => case.exif.iter().for_each(|b| bytes(&mut out, b)),
+            5 => gain_fields(&mut out, gain),
+            6 => gain.tmap.iter().for_each(|b| bytes(&mut out, b)),
+            7 => other.cicp.iter().for_each(|&c| cicp(&mut out, c)),
+            8 => other.icc.iter().for_each(|b| bytes(&mut out, b)),
+            _ => {}
+        }
+    }
+    out
+}
+
+/// A gain map's own fields.
+fn gain_fields(out: &mut Vec<u8>, gain: &Gain) {
+    bytes(out, &gain.hvcc);
+    bytes(out, &gain.sample);
+    put32(out, gain.width);
+    put32(out, gain.height);
+    out.push(gain.bit_depth.code());
+    cicp(out, gain.cicp);
+    bytes(out, &gain.xmp);
 }
 
 /// The fields that every sheet has.
