@@ -7,14 +7,14 @@ pub mod tile;
 
 ghost use mathlib.Core.Path.{_≡_};
 ghost use lib.ListN.{length};
-ghost use Rattle.panel.specs.Answer.{refused, number, says};
+ghost use Rattle.panel.specs.Answer.{refused, says};
 ghost use Rattle.layout.specs.Lent.{lent};
 ghost use Rattle.kahopiru.specs.Calls.{told, said-length, said, after-call};
 use crate::numbers::MaybePanel;
 use crate::numbers::numbers_of;
 use layout::file_length;
 use panel::Answer;
-use panel::Refusal;
+use sheet::refusal_number;
 use wrap::wrap_hevc_grid_with_alpha;
 
 // A colour encoding: three code points of ISO/IEC 23091-2, and 1 for the full range, else 0.
@@ -73,20 +73,6 @@ pub struct Told {
     pub length: u64,
 }
 
-// The number of a refusal.
-fn refusal_number(r: Refusal) -> u32
-    ensures { λ k. ⌜ k ≡ number r ⌝ }
-{
-    match r {
-        Refusal::GridSide => 1,
-        Refusal::TileCount => 2,
-        Refusal::SampleLengths => 3,
-        Refusal::ItemIds => 4,
-        Refusal::FileLength => 5,
-        Refusal::OutputLength => 6,
-    }
-}
-
 // An answer in numbers.
 fn tell(a: Answer) -> Told
     ensures { λ r. ⌜ r ≡ told (says a) ⌝ }
@@ -97,7 +83,7 @@ fn tell(a: Answer) -> Told
             length: n,
         },
         Answer::Refused(r) => Told {
-            refusal: refusal_number(r),
+            refusal: refusal_number(r) as u32,
             length: 0,
         },
     }

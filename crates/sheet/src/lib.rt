@@ -24,7 +24,7 @@ pub enum SheetAnswer {
 }
 
 // The number of a refusal.
-fn refusal_number(r: Refusal) -> u8
+pub fn refusal_number(r: Refusal) -> u8
     ensures { λ k. ⌜ k ≡ number r ⌝ }
 {
     match r {

@@ -15,4 +15,4 @@ returns-2 : tie.Need-returns-2
 returns-2 c = ap (λ (k : ℕ). record { refusal = k; length = 0 }) (c .refusal-number .ensures) ∙ ap (λ (a : Answer). told (says a)) (sym (c .before .before .a2 .given .1))
 
 pub tell-spec : {M : Type 1} → statement M
-tell-spec = tie.close (tie.spec (λ c. search needs) (λ c. search needs) (λ c κs. search needs) returns returns-2)
+tell-spec = tie.close (tie.spec (λ c. search needs) (λ c. search needs) (λ c κs. search needs) (λ c. search needs) returns returns-2)

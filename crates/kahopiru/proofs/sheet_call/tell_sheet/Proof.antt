@@ -1,0 +1,17 @@
+-- By what is answered.
+use borrow.Author.Needs.{needs}
+use mathlib.Core.Path.{sym, ap}
+use Rattle.sheet.specs.Answer.{sheet-says}
+use Rattle.sheet.specs.declared.SheetAnswer.{SheetAnswer}
+use Rattle.kahopiru.specs.Calls.{told}
+use Rattle.kahopiru.proofs.sheet_call.tell_sheet.Statement.{statement}
+use Rattle.kahopiru.proofs.sheet_call.tell_sheet.Tie as tie
+
+returns : tie.Need-returns
+returns c = ap (λ (a : SheetAnswer). told (sheet-says a)) (sym (c .before .a .given .1))
+
+returns-2 : tie.Need-returns-2
+returns-2 c = ap (λ (a : SheetAnswer). told (sheet-says a)) (sym (c .before .a2 .given .1))
+
+pub tell-sheet-spec : {M : Type 1} → statement M
+tell-sheet-spec = tie.close (tie.spec (λ c. search needs) (λ c. search needs) (λ c. search needs) returns returns-2)
