@@ -96,10 +96,18 @@ def _summary(data, item):
     """What the payload of a grid or of Exif says."""
     payload = b"".join(data[offset : offset + length] for offset, length in item.extents)
     if item.kind == "grid" and len(payload) >= 8:
-        side = 4 if payload[1] & 1 or len(payload) >= 12 else 2
-        width, height = payload[4 : 4 + side], payload[4 + side : 4 + 2 * side]
-        size = f"{int.from_bytes(width, 'big')} × {int.from_bytes(height, 'big')} pixels"
-        return f": {plural(payload[2] + 1, 'row')} × {plural(payload[3] + 1, 'column')}, {size}"
+        return f": {_grid(payload)}"
     if item.kind == "Exif" and len(payload) >= 4:
         return f": TIFF header {plural(int.from_bytes(payload[:4], 'big'), 'byte')} behind its first four"
     return ""
+
+
+def _grid(descriptor):
+    """A grid's descriptor. The standard tells by the lowest flag whether its sizes have 32 bits; here its length does,
+    and where the two part that is said."""
+    side = 4 if len(descriptor) >= 12 else 2
+    width, height = (int.from_bytes(descriptor[at : at + side], "big") for at in (4, 4 + side))
+    parts = descriptor[1] & 1 != (side == 4)
+    remark = f", though flags {descriptor[1]} call for sizes of {16 if side == 4 else 32} bits" if parts else ""
+    rows, columns = plural(descriptor[2] + 1, "row"), plural(descriptor[3] + 1, "column")
+    return f"{rows} × {columns}, {width} × {height} pixels{remark}"
