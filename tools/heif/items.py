@@ -2,7 +2,7 @@
 
 import dataclasses
 
-from .boxes import Box, NotHeif, body
+from .boxes import NotHeif, body
 from . import properties
 
 
@@ -23,7 +23,7 @@ class Contents:
 
     primary: int | None
     items: dict
-    references: list  # of type, from and to
+    references: list  # of the box's position, type, from and to
     properties: list  # of box and words; the first is at position 1
     groups: list  # of type, id and members
 
@@ -125,7 +125,7 @@ def _references(data, meta):
         part = body(data, box)
         width = 2 if iref.version == 0 else 4
         source = part.number(width)
-        found.append((box.kind, source, [part.number(width) for _ in range(part.number(2))]))
+        found.append((box.start, box.kind, source, [part.number(width) for _ in range(part.number(2))]))
     return found
 
 

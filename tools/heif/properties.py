@@ -35,9 +35,9 @@ def _colr(part):
         return f"ICC profile of {plural(part.end - part.at, 'byte')}" if kind in ("prof", "rICC") else f"colour as {kind}"
     codes = [part.number(2) for _ in range(3)]
     full = "full range" if part.number(1) >> 7 else "video range"
-    tables = (("primaries", PRIMARIES), ("transfer", TRANSFERS), ("matrix", MATRICES))
-    named = [f"{what} {code} ({table.get(code, 'see ISO/IEC 23091-2')})" for (what, table), code in zip(tables, codes)]
-    return f"code points: {', '.join(named)}, {full}"
+    named = [table.get(code, "see ISO/IEC 23091-2") for table, code in zip((PRIMARIES, TRANSFERS, MATRICES), codes)]
+    same = named[:1] if len(set(named)) == 1 else named
+    return f"code points {', '.join(map(str, codes))} ({', '.join(same)}), {full}"
 
 
 def _pixi(part):

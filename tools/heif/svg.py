@@ -6,7 +6,7 @@ from xml.sax.saxutils import escape
 from .properties import plural
 from .text import note_of
 
-LINE, INDENT, WIDTH, NUMBERS, MARGIN = 24, 18, 620, 118, 10
+LINE, INDENT, INSET, WIDTH, NUMBERS, MARGIN = 24, 18, 5, 680, 118, 10
 FILLS = {
     "ftyp": "#e8eef7", "meta": "#f3f3f3", "mdat": "#fbe9d7", "idat": "#fbe9d7", "iprp": "#e6f2e6", "ipco": "#d8ebd8",
     "iloc": "#ece6f5", "iref": "#ece6f5", "iinf": "#ece6f5",
@@ -64,7 +64,7 @@ def _payloads(box, contents):
 
 def _bar(depth, first, count, fill):
     x, y = MARGIN + NUMBERS + depth * INDENT, MARGIN + LINE * (first + 1)
-    width, height = WIDTH - 2 * depth * INDENT // 2, LINE * count - 3
+    width, height = WIDTH - depth * (INDENT + INSET), LINE * count - 3
     return f'<rect x="{x}" y="{y}" width="{width}" height="{height}" rx="3" fill="{fill}" stroke="#888888"/>'
 
 

@@ -4,6 +4,9 @@ from .boxes import body, brands_of
 from .properties import plural
 
 
+MEANINGS = {"iloc": "where each item's payload lies", "ipma": "which properties each item has"}
+
+
 def show(data, found, contents):
     """The lines of the text."""
     yield f"{plural(len(data), 'byte')}"
@@ -43,9 +46,15 @@ def note_of(data, box, contents):
     if box.kind == "pitm":
         return f"primary item {contents.primary}"
     if box.kind == "infe":
-        return f"item {body(data, box).number(2 if box.version == 2 else 4)}"
+        item = contents.items[body(data, box).number(2 if box.version == 2 else 4)]
+        return f"item {item.number}, {item.kind}{', hidden' if item.hidden else ''}"
     if box.kind == "iinf":
         return plural(len(contents.items), "item")
+    if box.kind in MEANINGS:
+        return MEANINGS[box.kind]
+    for start, kind, source, targets in contents.references:
+        if start == box.start:
+            return f"item {source}: {_refers(kind, targets)}"
     for position, (known, _) in enumerate(contents.properties, 1):
         if known.start == box.start:
             return f"property {position}"
@@ -65,7 +74,7 @@ def _item(data, item, contents):
     if item.associations:
         named = [_named(position, essential, contents) for position, essential in item.associations]
         yield f"      properties  {', '.join(named)}"
-    for kind, source, targets in contents.references:
+    for _, kind, source, targets in contents.references:
         if source == item.number:
             yield f"      {kind:<10}  {_refers(kind, targets)}"
 
