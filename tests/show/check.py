@@ -55,6 +55,8 @@ def check_picture(path):
     words = {element.text for element in drawn.iter("{http://www.w3.org/2000/svg}text")}
     if code != 0 or not set(OFFSETS) <= words:
         fail("the picture of P's file lacks a box")
+    if (ROOT / "docs/file-of-p.svg").read_text() != out:
+        fail("docs/file-of-p.svg is not what `tools/show --svg` draws of P's file")
 
 
 def check_errors(folder, data):
