@@ -9,6 +9,8 @@ missing=()
 for tool in python3 x265 heif-info heif-convert exiftool; do
     command -v "$tool" >/dev/null || missing+=("$tool")
 done
+# Version 7 has a command of its own; that of Debian's version 6 is asked for by its full name, as others are called convert, too.
+command -v magick >/dev/null || command -v convert-im6.q16 >/dev/null || missing+=(imagemagick)
 if [ ${#missing[@]} -gt 0 ]; then
     what="not installed: ${missing[*]} (tests/readers/install installs what is wanted on Debian)"
     case " ${KAHOPIRU_REQUIRE:-} " in

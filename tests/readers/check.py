@@ -63,7 +63,11 @@ def check_payloads(tally, files):
 def check_readers(tally, files):
     """Each reader on each file; the versions of the readers."""
     convert, magick, info, exiftool = programs.HeifConvert(), programs.Magick(), programs.HeifInfo(), programs.Exiftool()
-    decoders = [reader for reader in (convert, magick) if reader.command and reader.libheif]
+    decoders = [convert]
+    if magick.libheif is None:
+        tally.reports.append("ImageMagick: it is built without HEIF, and is left out")
+    else:
+        decoders.append(magick)
     for path, meant in files.items():
         for reader in decoders:
             with tempfile.TemporaryDirectory() as room:

@@ -101,7 +101,7 @@ class Magick:
     gives_alpha = gives_parts = False
 
     def __init__(self):
-        self.command = _first("magick", "convert-im6.q16", "convert")
+        self.command = _first("magick", "convert-im6.q16")
         self.libheif = None
         # Version 6 asks libheif for 4:2:0 without alpha, whatever the file has.
         self.halves_chroma = self.command is not None and " 6." in _run([self.command, "-version"])[1].split("\n")[0]
