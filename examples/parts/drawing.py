@@ -85,12 +85,13 @@ def colour_planes(card):
     full = [[ycbcr(*map(srgb, card.light(x, y))) for x in range(card.width)] for y in range(card.height)]
     luma = [[byte(pixel[0]) for pixel in row] for row in full]
 
+    def mean(x, y, which):
+        return sum(full[y + j][x + i][which] for i in (0, 1) for j in (0, 1)) / 4
+
     def difference(which):
-        # The mean of four pixels; 128 of 255 stands for none.
-        return [
-            [byte(sum(full[y + j][x + i][which] for i in (0, 1) for j in (0, 1)) / 4 + 128 / 255) for x in range(0, card.width, 2)]
-            for y in range(0, card.height, 2)
-        ]
+        none = 128 / 255  # the byte for no difference is 128
+        across, down = range(0, card.width, 2), range(0, card.height, 2)
+        return [[byte(mean(x, y, which) + none) for x in across] for y in down]
 
     return [luma, difference(1), difference(2)]
 
