@@ -20,9 +20,8 @@ from heif import boxes, items  # noqa: E402
 MADE_WITH = "3.5"  # the version of x265 that made the sheets in examples/
 
 
-def write(writer, cache, room):
-    """Every panel's file, and what it is meant to show."""
-    every = [panels.meant(case, cache) for case in panels.cases()] + panels.meant_cards()
+def write(writer, every, room):
+    """Writes the file of each panel; each file with what it is meant to show."""
     command = [writer]
     for each in every:
         data = sheet.sheet(each.panel)
@@ -80,12 +79,30 @@ def check_readers(tally, files):
     return {**versions, info.name: f"libheif {info.libheif}", "exiftool": exiftool.version()}
 
 
+def check_comparison(tally, writer, cache, room):
+    """The comparison sees what it should: with two alpha tiles, or two colour tiles, exchanged a file does not pass."""
+    for which in ("alpha", "color"):
+        meant = panels.meant(panels.Case(f"exchanged-{which}"), cache)
+        samples = getattr(meant.panel, f"{which}_samples")
+        samples[0], samples[1] = samples[1], samples[0]
+        (path,) = write(writer, [meant], room)
+        found = compare.Tally()
+        inner = room / which
+        inner.mkdir()
+        compare.decoded(found, programs.HeifConvert(), path, meant, inner)
+        if len(found.failures) != 1:
+            tally.fail("heif-convert", meant.name, "the exchange of two tiles is not seen")
+
+
 def main(writer, cache):
     tally = compare.Tally()
     with tempfile.TemporaryDirectory() as name:
-        files = write(writer, cache, pathlib.Path(name))
+        room = pathlib.Path(name)
+        every = [panels.meant(case, cache) for case in panels.cases()] + panels.meant_cards()
+        files = write(writer, every, room)
         versions = check_readers(tally, files)
         check_payloads(tally, files)
+        check_comparison(tally, writer, cache, room)
     check_examples(tally)
     for reader, counts in tally.counts.items():
         found = ", ".join(f"{what} {count}" for what, count in counts.items())

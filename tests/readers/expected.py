@@ -4,8 +4,6 @@ A version that is listed must behave as it is listed. Of a version that is not, 
 fails: then docs/DIFFERENCES.md wants a line more.
 """
 
-PAIRS = {"FlipH": "FlipV", "FlipV": "FlipH", "Transpose": "Transverse", "Transverse": "Transpose"}
-
 AS_MEANT, OTHER_OF_PAIR = "shown as meant", "shown as the other mirrored orientation of its pair"
 SHOWN, REFUSED = "shown", "refused"
 
