@@ -59,12 +59,18 @@ def check_picture(path):
         fail("docs/file-of-p.svg is not what `tools/show --svg` draws of P's file")
 
 
+def _nested(count):
+    """Boxes of type iprp, each the only one within another."""
+    return b"".join((8 * (count - i)).to_bytes(4, "big") + b"iprp" for i in range(count))
+
+
 def check_errors(folder, data):
     """The command ends in 1 and says one line, of which a person can make something."""
     cases = {
         "cut": (data[:300], "box meta at 28 says that it ends at 546, but the file ends at 300"),
         "png": (b"\x89PNG\r\n\x1a\n" + bytes(40), "not a HEIF file"),
         "empty": (b"", "not a HEIF file"),
+        "deep": (data[:28] + _nested(2000), "lies within more than 12 boxes"),
         "video": (b"\0\0\0\x14ftypisom\0\0\0\0isom", "its brands are isom"),
     }
     for name, (content, wanted) in cases.items():

@@ -29,6 +29,7 @@ class Box:
 # Boxes whose header is followed by a version and flags. Any box of these types is read so wherever it stands.
 FULL = {"meta", "hdlr", "pitm", "iloc", "iinf", "infe", "iref", "ipma", "ispe", "pixi", "auxC", "altr"}
 CONTAINERS = {"meta", "iprp", "ipco", "iinf", "iref", "grpl"}
+DEEPEST = 12  # boxes within boxes; files that people make have four
 HEIF_BRANDS = {"mif1", "mif2", "heic", "heix", "heim", "heis", "msf1", "miaf", "avif"}
 
 
@@ -92,8 +93,10 @@ def _header(data, start, end, holder):
     return box
 
 
-def boxes(data, start, end, holder, inside_references=False):
-    """The boxes from `start` to `end`."""
+def boxes(data, start, end, holder, depth=0, inside_references=False):
+    """The boxes from `start` to `end`. Within iref and grpl a box's type is a kind of reference, and holds no boxes."""
+    if depth > DEEPEST:
+        raise NotHeif(f"{holder} lies within more than {DEEPEST} boxes")
     found = []
     while start < end:
         box = _header(data, start, end, holder)
@@ -101,7 +104,8 @@ def boxes(data, start, end, holder, inside_references=False):
             first = box.body
             if box.kind == "iinf":
                 first += 2 if box.version == 0 else 4  # the count of entries stands before them
-            box.within = boxes(data, first, box.end, f"box {box.kind} at {box.start}", box.kind in ("iref", "grpl"))
+            named, references = f"box {box.kind} at {box.start}", box.kind in ("iref", "grpl")
+            box.within = boxes(data, first, box.end, named, depth + 1, references)
         found.append(box)
         start = box.end
     return found
