@@ -11,13 +11,14 @@ import tempfile
 import panels  # before all else: it says where the example's modules are
 import compare
 import programs
+import wide
 from parts import cards, hevc, sheet
 
 sys.path.insert(0, str(panels.ROOT / "tools"))
 
 from heif import boxes, items  # noqa: E402
 
-MADE_WITH = "3.5"  # the version of x265 that made the sheets in examples/
+MADE_WITH = ("3.5", "4.1", "4.2")  # the versions of x265 that are known to make the sheets in examples/
 
 
 def write(writer, every, room):
@@ -42,7 +43,7 @@ def check_examples(tally):
     if version.startswith(MADE_WITH):
         tally.fail("examples/make", other, "makes another sheet than is committed")
     else:
-        tally.reports.append(f"examples/make: x265 {version} makes other bytes than {MADE_WITH} did: {other}")
+        tally.reports.append(f"examples/make: x265 {version} makes other bytes than {MADE_WITH[0]} did: {other}")
 
 
 def check_payloads(tally, files):
@@ -103,6 +104,7 @@ def main(writer, cache):
         versions = check_readers(tally, files)
         check_payloads(tally, files)
         check_comparison(tally, writer, cache, room)
+        wide.check(tally, writer, cache, room)
     check_examples(tally)
     for reader, counts in tally.counts.items():
         found = ", ".join(f"{what} {count}" for what, count in counts.items())

@@ -30,6 +30,16 @@ class Tally:
         else:
             self.fail(reader, name, f"{what} {message}")
 
+    def note(self, reader, name, entry, behaviour):
+        """Holds what a reader does where docs/DIFFERENCES.md has an entry to what is known of its version."""
+        judged = expected.judge(entry, reader.libheif, behaviour)
+        if judged is None:
+            self.count(reader.name, f"as {entry} says")
+        elif judged[0]:
+            self.fail(reader.name, name, judged[1])
+        else:
+            self.reports.append(f"{reader.name}: {name}: {judged[1]}")
+
 
 def decoded(tally, reader, file, meant, room):
     """Holds a decoding reader to the pictures."""
@@ -37,27 +47,17 @@ def decoded(tally, reader, file, meant, room):
         seen = reader.read(file, room)
     except programs.Refused as refusal:
         if meant.difference in ("S2", "S4"):
-            _difference(tally, reader, meant, expected.REFUSED)
+            tally.note(reader, meant.name, meant.difference, expected.REFUSED)
         else:
             tally.fail(reader.name, meant.name, f"refused: {refusal}")
         return
     tally.count(reader.name, "files read")
     if meant.difference in ("S2", "S4"):
-        _difference(tally, reader, meant, expected.SHOWN)
+        tally.note(reader, meant.name, meant.difference, expected.SHOWN)
     elif meant.difference == "S1":
         _mirrored(tally, reader, meant, seen)
     else:
         _pictures(tally, reader, meant, seen)
-
-
-def _difference(tally, reader, meant, behaviour):
-    judged = expected.judge(meant.difference, reader.libheif, behaviour)
-    if judged is None:
-        tally.count(reader.name, f"as {meant.difference} says")
-    elif judged[0]:
-        tally.fail(reader.name, meant.name, judged[1])
-    else:
-        tally.reports.append(f"{reader.name}: {meant.name}: {judged[1]}")
 
 
 def _mirrored(tally, reader, meant, seen):
@@ -65,7 +65,7 @@ def _mirrored(tally, reader, meant, seen):
     for behaviour, turn in ((expected.AS_MEANT, "Normal"), (expected.OTHER_OF_PAIR, "Rotate180")):
         turned = pixels.TURNS[turn]
         if _shows(meant.colour.map(turned), meant.alpha.map(turned), seen, _allowed(reader, meant)):
-            _difference(tally, reader, meant, behaviour)
+            tally.note(reader, meant.name, meant.difference, behaviour)
             return
     tally.fail(reader.name, meant.name, "neither as meant nor as the other mirrored orientation of its pair")
 
@@ -120,7 +120,7 @@ def described(tally, info, file, meant):
         said = info.read(file)
     except programs.Refused as refusal:
         if meant.difference in ("S2", "S4"):
-            _difference(tally, info, meant, expected.REFUSED)
+            tally.note(info, meant.name, meant.difference, expected.REFUSED)
         else:
             tally.fail(info.name, meant.name, f"refused: {refusal}")
         return

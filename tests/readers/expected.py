@@ -10,8 +10,9 @@ SHOWN, REFUSED = "shown", "refused"
 # Entry, then version of libheif, then what it does.
 LIBHEIF = {
     "S1": {"1.15.1": {OTHER_OF_PAIR}, "1.19.8": {OTHER_OF_PAIR}, "1.23.6": {OTHER_OF_PAIR}},
-    "S2": {"1.15.1": {REFUSED}, "1.19.8": {REFUSED}, "1.23.6": {REFUSED, SHOWN}},
+    "S2": {"1.15.1": {REFUSED}, "1.19.8": {REFUSED}, "1.23.6": {SHOWN}},  # the last with the tile black
     "S4": {"1.15.1": {SHOWN}, "1.19.8": {REFUSED}, "1.23.6": {REFUSED}},
+    "S10": {"1.19.8": {REFUSED}, "1.23.6": {REFUSED}},
 }
 
 # Warnings of exiftool's -validate that are known; all others fail.

@@ -71,6 +71,14 @@ class HeifConvert:
             gain=None if gain is None else made(*png.read(gain)[:2]),
         )
 
+    def forgets_limits(self):
+        """Whether this version can be told to read pictures of any size."""
+        return "--disable-limits" in _run([self.command, "--help"])[1]
+
+    def shows_without_limits(self, file, out):
+        done, _ = _run([self.command, "--disable-limits", "--quiet", file, out])
+        return done.returncode == 0 and out.exists()
+
 
 def libheif_version():
     """The version of the library that libheif's programs are of, or None."""
