@@ -1,17 +1,16 @@
 #!/usr/bin/env bash
 # The writer is compared with upstream's, which is built from its own source; see tests/differential. The source is looked
 # for in the folder that KAHOPIRU_UPSTREAM names, else in ../shared/docs/src beside the repository. Where it is not there the
-# comparison is left out and a line says so; with KAHOPIRU_REQUIRE=oracle that is a failure.
+# comparison is left out and a line says so; with the word `oracle` in KAHOPIRU_REQUIRE that is a failure.
 set -euo pipefail
 upstream=$(realpath -m -- "${KAHOPIRU_UPSTREAM:-$(dirname "$0")/../../shared/docs/src}")
 cd "$(dirname "$0")/.."
 
 if [ ! -d "$upstream/src" ]; then
     missing="upstream's source is not in $upstream (KAHOPIRU_UPSTREAM names another folder)"
-    if [ "${KAHOPIRU_REQUIRE:-}" = oracle ]; then
-        echo "differential: $missing, and KAHOPIRU_REQUIRE=oracle asks for it" >&2
-        exit 1
-    fi
+    case " ${KAHOPIRU_REQUIRE:-} " in
+        *[\ ,]oracle[\ ,]*) echo "differential: $missing, and KAHOPIRU_REQUIRE asks for it" >&2; exit 1 ;;
+    esac
     echo "differential: skipped the comparison with upstream: $missing"
     exit 0
 fi

@@ -1,0 +1,126 @@
+"""Writes real panels with the binding and reads them with the readers that are installed.
+
+    check.py WRITER CACHE    WRITER is the program that turns sheets into files, CACHE a folder for coded pictures
+"""
+
+import pathlib
+import subprocess
+import sys
+import tempfile
+
+import panels  # before all else: it says where the example's modules are
+import compare
+import programs
+import wide
+from parts import cards, hevc, sheet
+
+sys.path.insert(0, str(panels.ROOT / "tools"))
+
+from heif import boxes, items  # noqa: E402
+
+MADE_WITH = ("3.5", "4.1", "4.2")  # the versions of x265 that are known to make the sheets in examples/
+
+
+def write(writer, every, room):
+    """Writes the file of each panel; each file with what it is meant to show."""
+    command = [writer]
+    for each in every:
+        data = sheet.sheet(each.panel)
+        (room / f"{each.name}.sheet").write_bytes(data)
+        command += [room / f"{each.name}.sheet", room / f"{each.name}.heic"]
+    subprocess.run(command, check=True)
+    return {room / f"{each.name}.heic": each for each in every}
+
+
+def check_examples(tally):
+    """The committed sheets are those that examples/make makes."""
+    made = cards.all_panels()
+    same = [name for name, panel in made.items() if (panels.ROOT / f"examples/{name}.sheet").read_bytes() == sheet.sheet(panel)]
+    if len(same) == len(made):
+        return
+    other = ", ".join(sorted(set(made) - set(same)))
+    version = hevc.encoder_version()
+    if version.startswith(MADE_WITH):
+        tally.fail("examples/make", other, "makes another sheet than is committed")
+    else:
+        tally.reports.append(f"examples/make: x265 {version} makes other bytes than {MADE_WITH[0]} did: {other}")
+
+
+def check_payloads(tally, files):
+    """The tone map and the XMP packet lie where the file says; no reader here gives the tone map."""
+    for path, meant in files.items():
+        gain = meant.panel.gain
+        if gain is None:
+            continue
+        data = path.read_bytes()
+        found = items.contents(data, boxes.read(data)).items.values()
+        payloads = {i.kind: b"".join(data[a : a + n] for a, n in i.extents) for i in found if i.kind in ("tmap", "mime")}
+        tally.hold("tools/show", meant.name, "XMP the same", payloads["mime"] == gain.xmp)
+        if gain.tone_map is not None:
+            tally.hold("tools/show", meant.name, "tone map the same", payloads["tmap"] == gain.tone_map)
+
+
+def check_readers(tally, files):
+    """Each reader on each file; the versions of the readers."""
+    convert, magick, info, exiftool = programs.HeifConvert(), programs.Magick(), programs.HeifInfo(), programs.Exiftool()
+    decoders = [convert]
+    if magick.libheif is None:
+        tally.reports.append("ImageMagick: it is built without HEIF, and is left out")
+    else:
+        decoders.append(magick)
+    for path, meant in files.items():
+        for reader in decoders:
+            with tempfile.TemporaryDirectory() as room:
+                compare.decoded(tally, reader, path, meant, pathlib.Path(room))
+        compare.described(tally, info, path, meant)
+    tags = exiftool.read([str(path) for path in files])
+    for path, meant in files.items():
+        compare.tagged(tally, tags.get(str(path), {"Error": "no answer"}), meant)
+    versions = {reader.name: reader.version() for reader in decoders}
+    return {**versions, info.name: f"libheif {info.libheif}", "exiftool": exiftool.version()}
+
+
+def check_comparison(tally, writer, cache, room):
+    """The comparison sees what it should: with two alpha tiles, or two colour tiles, exchanged a file does not pass."""
+    for which in ("alpha", "color"):
+        meant = panels.meant(panels.Case(f"exchanged-{which}"), cache)
+        samples = getattr(meant.panel, f"{which}_samples")
+        samples[0], samples[1] = samples[1], samples[0]
+        (path,) = write(writer, [meant], room)
+        found = compare.Tally()
+        inner = room / which
+        inner.mkdir()
+        compare.decoded(found, programs.HeifConvert(), path, meant, inner)
+        if len(found.failures) != 1:
+            tally.fail("heif-convert", meant.name, "the exchange of two tiles is not seen")
+
+
+def main(writer, cache):
+    tally = compare.Tally()
+    with tempfile.TemporaryDirectory() as name:
+        room = pathlib.Path(name)
+        every = [panels.meant(case, cache) for case in panels.cases()] + panels.meant_cards()
+        files = write(writer, every, room)
+        versions = check_readers(tally, files)
+        check_payloads(tally, files)
+        check_comparison(tally, writer, cache, room)
+        wide.check(tally, writer, cache, room)
+    check_examples(tally)
+    for reader, counts in tally.counts.items():
+        found = ", ".join(f"{what} {count}" for what, count in counts.items())
+        version = f" {versions[reader]}" if reader in versions else ""
+        print(f"readers: {reader}{version}: {found}")
+    for report in tally.reports:
+        print(f"readers: to be noted: {report}")
+    for failure in tally.failures:
+        print(f"readers: {failure}", file=sys.stderr)
+    if tally.failures:
+        sys.exit(f"readers: {len(tally.failures)} of the checks fail")
+    print(f"readers: {len(files)} files are read as docs/DIFFERENCES.md has it by {', '.join(versions)}")
+
+
+if __name__ == "__main__":
+    try:
+        main(sys.argv[1], sys.argv[2])
+    except hevc.CodecError as error:
+        sys.exit(f"readers: {error}")
