@@ -1,5 +1,5 @@
 #!/usr/bin/env bash
-# What README.md shows is tried as written: the program in C and its commands, and the program in Rust.
+# What README.md shows is tried as written: the commands with what they print, the program in C, and the program in Rust.
 set -euo pipefail
 cd "$(dirname "$0")/.."
 
@@ -27,7 +27,16 @@ trap 'rm -rf "$room"' EXIT
 
 # The commands are given at the root of the repository; here that root is a folder that leads to everything in it.
 mkdir "$room/root"
-for each in bindings crates crates.txt target; do ln -s "$home/$each" "$room/root/$each"; done
+for each in bindings crates crates.txt docs examples panel target tools; do ln -s "$home/$each" "$room/root/$each"; done
+
+# Blocks of console: each line behind '$ ' is typed, and what stands below it is what it prints.
+awk '/^```console$/ { on = 1; next } /^```$/ { on = 0 } on { print }' README.md >"$room/console"
+[ -x target/bin/panel_sheet ] || rt check panel_sheet >"$room/log" 2>&1 || { tail -n 20 "$room/log" >&2; fail "panel_sheet is not built"; }
+sed -n 's/^\$ //p' "$room/console" | while read -r command; do
+    printf '$ %s\n' "$command"
+    (cd "$room/root" && PYTHONDONTWRITEBYTECODE=1 bash -c "$command" </dev/null 2>&1)
+done >"$room/printed"
+diff "$room/console" "$room/printed" >&2 || fail "the commands print something else than README.md shows"
 block c >"$room/root/hello.c"
 commands=$(block sh)
 bindings/archive
@@ -45,4 +54,4 @@ edition = "2021"
 kahopiru = { path = "$home/bindings/rust" }
 END
 prints "CARGO_TARGET_DIR='$home/target/cargo' cargo run --quiet --offline --manifest-path '$room/rust/Cargo.toml'" '556 bytes'
-echo "readme: what it shows in C and in Rust prints what it says"
+echo "readme: what it shows prints what it says: $(grep -c "^\$ " "$room/console") commands, a program in C and one in Rust"

@@ -1,7 +1,7 @@
 //! Panel sheets: the archive's call and the program, held to upstream's writer behind a reader of our own (reader.rs).
 
 use crate::compare::{judge, Room};
-use crate::panels::{full, Case};
+use crate::panels::{full, p, Case};
 use crate::predict::{self, Answer};
 use crate::random::{self, Rng};
 use crate::run::Run;
@@ -57,6 +57,9 @@ fn sheets(seed: u64) -> Vec<Vec<u8>> {
     for bit in 9..16 {
         all.push(every_field(1 << bit, &full()));
         all.push(every_field(0x1FF | 1 << bit, &full()));
+    }
+    for (cols, rows) in [(0, 1), (1, 0), (0, 0), (257, 1), (1, 300), (0, 65_535)] {
+        all.push(sheet(&p().with_empty_grid(cols, rows)));
     }
     let whole = sheet(&full().with_grid(2, 2, vec![1, 0, 2, 1], vec![0, 1, 1, 0]));
     all.extend((0..=whole.len()).map(|n| whole[..n].to_vec()));
