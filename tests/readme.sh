@@ -32,6 +32,7 @@ for each in bindings crates crates.txt docs examples panel target tools; do ln -
 # Blocks of console: each line behind '$ ' is typed, and what stands below it is what it prints.
 awk '/^```console$/ { on = 1; next } /^```$/ { on = 0 } on { print }' README.md >"$room/console"
 [ -x target/bin/panel_sheet ] || rt check panel_sheet >"$room/log" 2>&1 || { tail -n 20 "$room/log" >&2; fail "panel_sheet is not built"; }
+command -v python3 >/dev/null || { echo "readme: skipped: python3, which tools/show needs, is not installed"; exit 0; }
 sed -n 's/^\$ //p' "$room/console" | while read -r command; do
     printf '$ %s\n' "$command"
     (cd "$room/root" && PYTHONDONTWRITEBYTECODE=1 bash -c "$command" </dev/null 2>&1)

@@ -18,6 +18,7 @@ use octets::write_fullbox;
 use panel::ItemId;
 
 // An item's id and type, whether it is hidden, and of a mime item the content type with a zero byte behind it.
+// Above 8 calls by one: the size and the flag of the head are each worked out by one.
 pub fn write_infe(
     out: &mut [u8],
     at: usize,
