@@ -7,9 +7,9 @@ use Rattle.panel.specs.Panel.{Panel}
 use Rattle.panel.specs.Items.{ordinary}
 use Rattle.panel.specs.Answer.{Outcome, made, refused, write-answer, after}
 use Rattle.sheet_fields.specs.Read.{Read, got, stop}
 use Rattle.sheet.specs.Sheet.{sheet}
-use Rattle.sheet.specs.declared.SheetAnswer.{SheetAnswer}
-use Rattle.sheet.specs.declared.SheetAnswer.the-variants.{Length, Refused}
+use Rattle.sheet_file.specs.declared.SheetAnswer.{SheetAnswer}
+use Rattle.sheet_file.specs.declared.SheetAnswer.the-variants.{Length, Refused}
 
 -- what the code's answer says
 abbrev pub sheet-says : SheetAnswer → Outcome
