@@ -1,0 +1,4 @@
+pub mod Says
+pub mod Codes
+pub mod Maps
+pub mod Back
