@@ -1,3 +1,4 @@
 pub mod Map
 pub mod Sheet
 pub mod Said
+pub mod Answer

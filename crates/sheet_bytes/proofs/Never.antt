@@ -15,6 +15,7 @@ use Rattle.panel.specs.Iloc.{wide}
 use Rattle.panel.specs.File.{rext, gain-rext, file}
 use Rattle.panel.specs.Refusal.{bad-grid, differ, bad-counts, bad-sum, last-id, bad-id, too-long, refusal-in}
 use Rattle.panel.specs.Widths.{Of}
+use Rattle.panel.specs.Answer.{refused, outcome, write-answer}
 use Rattle.panel.specs.declared.GridDims.{GridDims}
 use Rattle.panel.specs.declared.color.Cicp.{Cicp}
 use Rattle.panel.specs.declared.metadata.Orientation.{Orientation}
@@ -25,6 +26,7 @@ use Rattle.length.specs.Shares.{Extra, share, wide-grid, alternate-cicp, light-
 use Rattle.length.proofs.Shares.{length-as-sum}
 use Rattle.sheet_fields.specs.Read.{Read, got, stop}
 use Rattle.sheet.specs.Sheet.{fields, sheet}
+use Rattle.sheet.specs.Answer.{answer-of, sheet-answer}
 use Rattle.sheet_bytes.proofs.Yields.{Short, Short-colour, Short-gain, Bounded, a-panel}
 
 -- ---- the length of the file, by the shares of what the panel has
@@ -115,15 +117,37 @@ module _ (p : Panel) (b : Bounded p) where
       let g = gain-extras (p .gain) in
       let x = exif-extras (p .metadata .exif) in
       let l = given (has (p .metadata .light)) (light-level ∷ []) in
-      omega (arith,
-        shares-append (grid-extras (p .dims)) (turn-extras o ‖ l ‖ x ‖ c ‖ g), shares-append (turn-extras o) (l ‖ x ‖ c ‖ g), shares-append l (x ‖ c ‖ g), shares-append x (c ‖ g), shares-append c g,
-        grid-small (p .dims), turns-small o .0, given-small (has (p .metadata .light)) light-level, exif-small (p .metadata .exif) (b .metadata .exif), colour-small (p .colour .cicp) (p .colour .icc) (b .colour .icc), gain-small (p .gain) (b .gain))
+      omega (
+        arith,
+        shares-append (grid-extras (p .dims)) (turn-extras o ‖ l ‖ x ‖ c ‖ g),
+        shares-append (turn-extras o) (l ‖ x ‖ c ‖ g),
+        shares-append l (x ‖ c ‖ g),
+        shares-append x (c ‖ g),
+        shares-append c g,
+        grid-small (p .dims),
+        turns-small o .0,
+        given-small (has (p .metadata .light)) light-level,
+        exif-small (p .metadata .exif) (b .metadata .exif),
+        colour-small (p .colour .cicp) (p .colour .icc) (b .colour .icc),
+        gain-small (p .gain) (b .gain),
+      )
 
   file-small : length (file ordinary p) ≤ 4294967295
   file-small =
-      omega (arith, length-as-sum p even, extras-small, cond-small (has (p .gain)) (turn-count (p .metadata .orientation)), turns-small (p .metadata .orientation) .1,
+      omega (
+        arith,
+        length-as-sum p even,
+        extras-small,
+        cond-small (has (p .gain)) (turn-count (p .metadata .orientation)),
+        turns-small (p .metadata .orientation) .1,
         cond-small (gain-rext (p .gain) && not (rext (p .tiles .config))) 4,
-        b .pictures .tiles, b .pictures .colour .count, b .pictures .colour-config, b .pictures .alpha-config, b .pictures .colour-bytes, b .pictures .alpha-bytes)
+        b .pictures .tiles,
+        b .pictures .colour .count,
+        b .pictures .colour-config,
+        b .pictures .alpha-config,
+        b .pictures .colour-bytes,
+        b .pictures .alpha-bytes,
+      )
 
   -- ---- the checks
 
@@ -159,5 +183,27 @@ module _ (s rest : List ℕ) (p : Panel) (e : sheet s ≡ got p rest) where
       go false h e = a-panel .yields s rest p (ltb-false 12288 (length s) h) e .0
 
   -- the panel that a sheet says is refused by 1, by 6, or not at all
-  pub never : (room : ℕ) → refusal-in ordinary room p ≡ cond (bad-grid (p .dims .rows) (p .dims .cols)) 1 (cond (ltb room (length (file ordinary p))) 6 0)
-  never = only p held
+  pub said-only : (room : ℕ) → refusal-in ordinary room p ≡ cond (bad-grid (p .dims .rows) (p .dims .cols)) 1 (cond (ltb room (length (file ordinary p))) 6 0)
+  said-only = only p held
+
+stops-late : (s : List ℕ) (k : ℕ) → sheet s ≡ stop k → 11 ≤ k
+unfolding sheet
+stops-late s k e = go (ltb 12288 (length s)) refl e
+  where
+    go : (b : Bool) → ltb 12288 (length s) ≡ b → cond b (stop 15) (fields s) ≡ stop k → 11 ≤ k
+    go true h e = let v : 15 ≡ k = cc in omega arith
+    go false h e = a-panel .stops s k (ltb-false 12288 (length s) h) e
+
+outside : (b1 b6 : Bool) (size k : ℕ) → outcome (cond b1 1 (cond b6 6 0)) size ≡ refused k → 2 ≤ k → k ≤ 5 → ⊥
+outside true b6 size k e l m = let v : 1 ≡ k = cc in omega arith
+outside false true size k e l m = let v : 6 ≡ k = cc in omega arith
+outside false false size k e l m = let z : _≡_ {A = ℕ} 0 1 = cc in omega arith
+
+-- no sheet is answered 2, 3, 4 or 5
+pub never : (s : List ℕ) (room k : ℕ) → sheet-answer s room ≡ refused k → 2 ≤ k → k ≤ 5 → ⊥
+unfolding sheet-answer write-answer
+never s room k e l m = go (sheet s) refl e
+  where
+    go : (r : Read Panel) → sheet s ≡ r → answer-of r room ≡ refused k → ⊥
+    go (got p rest) h e = outside (bad-grid (p .dims .rows) (p .dims .cols)) (ltb room (length (file ordinary p))) (length (file ordinary p)) k (ap (λ n. outcome n (length (file ordinary p))) (sym (said-only s rest p h room)) ∙ e) l m
+    go (stop j) h e = let v : j ≡ k = cc in omega (arith, stops-late s j h)

@@ -29,9 +29,11 @@ pub record Says {A : Type 0} (f : Reader A) (x : List ℕ) (a : A) : Type 0 wher
 module _ {A B : Type 0} {f : Reader A} {x : List ℕ} {a : A} where
   pub and-then : (g : A → Reader B) {y : List ℕ} {b : B} → Says f x a → Says (g a) y b → Says (f then g) (x ‖ y) b
   unfolding _then_
-  and-then g {y} {b} h k = record { says = λ l rest.
-      let s = length-append x y in
-      ap (λ z. onward (f z) g) (append-assoc x y rest) ∙ ap (λ r. onward r g) (h .says (omega arith) (y ++ rest)) ∙ k .says (omega arith) rest }
+  and-then g {y} {b} h k = record {
+    says = λ l rest.
+        let s = length-append x y in
+        ap (λ z. onward (f z) g) (append-assoc x y rest) ∙ ap (λ r. onward r g) (h .says (omega arith) (y ++ rest)) ∙ k .says (omega arith) rest;
+  }
 
   -- where what follows takes no bytes
   pub closes : (g : A → Reader B) {b : B} → Says f x a → g a ≡ give b → Says (f then g) x b
@@ -49,10 +51,12 @@ off-none = record { says = λ l rest. refl }
 
 pub off-bytes : (n : ℕ) (x : List ℕ) → length x ≡ n → Says (bytes n) x x
 unfolding bytes
-off-bytes n x e = record { says = λ l rest.
-    let h : n ≤ length (x ++ rest) = omega (arith, length-append x rest) in
-    ap (λ b. cond b (stop 11) (got (take n (x ++ rest)) (drop n (x ++ rest)))) (le-ltb _ _ h)
-    ∙ (λ i. got (take-at x rest n e i) (drop-at x rest n e i)) }
+off-bytes n x e = record {
+  says = λ l rest.
+      let h : n ≤ length (x ++ rest) = omega (arith, length-append x rest) in
+      ap (λ b. cond b (stop 11) (got (take n (x ++ rest)) (drop n (x ++ rest)))) (le-ltb _ _ h)
+      ∙ (λ i. got (take-at x rest n e i) (drop-at x rest n e i));
+}
 
 pub value-be : (k n : ℕ) → value (be k n) ≡ n % 2 ^ (8 * k)
 value-be zero n = omega arith
@@ -102,9 +106,11 @@ pub record Ends {A : Type 0} (f : Reader A) (x : List ℕ) (a : A) : Type 0 wher
 module _ {A B : Type 0} {f : Reader A} {x : List ℕ} {a : A} where
   pub and-ends : (g : A → Reader B) {y : List ℕ} {b : B} → Says f x a → Ends (g a) y b → Ends (f then g) (x ‖ y) b
   unfolding _then_
-  and-ends g {y} h k = record { ends = λ l.
-      let s = length-append x y in
-      ap (λ r. onward r g) (h .says (omega arith) y) ∙ k .ends (omega arith) }
+  and-ends g {y} h k = record {
+    ends = λ l.
+        let s = length-append x y in
+        ap (λ r. onward r g) (h .says (omega arith) y) ∙ k .ends (omega arith);
+  }
 
   pub last-ends : (make : A → B) → Says f x a → Ends (f then λ v. end (make v)) x (make a)
   unfolding _then_ end

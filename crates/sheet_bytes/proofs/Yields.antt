@@ -1,4 +1,5 @@
--- What holds of every value that is read off a sheet of at most 12,288 bytes: no part of it is longer, and the lengths fit the bytes.
+-- What holds of every value that is read off a sheet of at most 12,288 bytes: no part of it is longer, and the lengths fit the bytes;
+-- and every refusal on the way has a number from 11 on.
 use mathlib.Core.Path.{_≡_, refl, sym, ap, _∙_}
 use mathlib.Core.Bool.{Bool, true, false, cond}
 use mathlib.Core.Option.{Option, none, some}
@@ -27,6 +28,7 @@ Short x = length x ≤ 12288
 
 pub record Yields {A : Type 0} (f : Reader A) (P : A → Type 0) : Type 0 where
   pub yields : (s rest : List ℕ) (a : A) → Short s → f s ≡ got a rest → P a × Short rest
+  pub stops : (s : List ℕ) (k : ℕ) → Short s → f s ≡ stop k → 11 ≤ k
 
 abbrev Any : {A : Type 0} → A → Type 0
 Any a = Unit {0}
@@ -36,19 +38,27 @@ Any a = Unit {0}
 module _ {A B : Type 0} {P : A → Type 0} {Q : B → Type 0} {f : Reader A} where
   seq : (g : A → Reader B) → Yields f P → ((a : A) → P a → Yields (g a) Q) → Yields (f then g) Q
   unfolding _then_
-  seq g h k = record { yields = λ s rest b l e. go s rest b l (f s) refl e }
+  seq g h k = record { yields = λ s rest b l e. go s rest b l (f s) refl e; stops = λ s n l e. halt s n l (f s) refl e }
     where
+      halt : (s : List ℕ) (n : ℕ) → Short s → (r : Read A) → f s ≡ r → onward r g ≡ stop n → 11 ≤ n
+      halt s n l (got a t) e e′ = let x = h .yields s t a l e in k a (x .0) .stops t n (x .1) e′
+      halt s n l (stop j) e e′ = let v : j ≡ n = cc in rw v at (h .stops s j l e)
+
       go : (s rest : List ℕ) (b : B) → Short s → (r : Read A) → f s ≡ r → onward r g ≡ got b rest → Q b × Short rest
       go s rest b l (got a t) e e′ = let x = h .yields s t a l e in k a (x .0) .yields t rest b (x .1) e′
       go s rest b l (stop n) e e′ = absurd (let z : _≡_ {A = ℕ} 0 1 = cc in omega arith)
 
 gives : {A : Type 0} {P : A → Type 0} {a : A} → P a → Yields (give a) P
-gives {a = a} p = record { yields = λ s rest b l e. let v : a ≡ b = cc in let t : s ≡ rest = cc in (rw v at p, rw t at l) }
+gives {a = a} p = record { yields = λ s rest b l e. let v : a ≡ b = cc in let t : s ≡ rest = cc in (rw v at p, rw t at l); stops = λ s k l e. absurd (let z : _≡_ {A = ℕ} 0 1 = cc in omega arith) }
 
 ended : {A : Type 0} {P : A → Type 0} (a : A) → P a → Yields (end a) P
 unfolding end
-ended {A} {P} a p = record { yields = go }
+ended {A} {P} a p = record { yields = go; stops = halt }
   where
+    halt : (s : List ℕ) (k : ℕ) → Short s → end a s ≡ stop k → 11 ≤ k
+    halt [] k l e = absurd (let z : _≡_ {A = ℕ} 0 1 = cc in omega arith)
+    halt (x ∷ s) k l e = let v : 14 ≡ k = cc in omega arith
+
     go : (s rest : List ℕ) (b : A) → Short s → end a s ≡ got b rest → P b × Short rest
     go [] rest b l e = let v : a ≡ b = cc in let t : [] ≡ rest = cc in (rw v at p, omega (arith, ap length t))
     go (x ∷ s) rest b l e = absurd (let z : _≡_ {A = ℕ} 0 1 = cc in omega arith)
@@ -57,8 +67,12 @@ ended {A} {P} a p = record { yields = go }
 
 some-bytes : (n : ℕ) → Yields (bytes n) (λ x. (length x ≡ n) × Short x)
 unfolding bytes
-some-bytes n = record { yields = λ s rest x l e. go s rest x l (ltb (length s) n) refl e }
+some-bytes n = record { yields = λ s rest x l e. go s rest x l (ltb (length s) n) refl e; stops = λ s k l e. halt s k (ltb (length s) n) e }
   where
+    halt : (s : List ℕ) (k : ℕ) (b : Bool) → cond b (stop 11) (got (take n s) (drop n s)) ≡ stop k → 11 ≤ k
+    halt s k true e = let v : 11 ≡ k = cc in omega arith
+    halt s k false e = absurd (let z : _≡_ {A = ℕ} 0 1 = cc in omega arith)
+
     go : (s rest x : List ℕ) → Short s → (b : Bool) → ltb (length s) n ≡ b → cond b (stop 11) (got (take n s) (drop n s)) ≡ got x rest → ((length x ≡ n) × Short x) × Short rest
     go s rest x l true h e = absurd (let z : _≡_ {A = ℕ} 0 1 = cc in omega arith)
     go s rest x l false h e =
@@ -75,7 +89,7 @@ a-number k = seq _ (some-bytes k) (λ x h. gives tt)
 
 a-string : Yields string Short
 unfolding string
-a-string = seq _ (a-number 4) (λ n h. record { yields = λ s rest x l e. let r = some-bytes n .yields s rest x l e in (r .0 .1, r .1) })
+a-string = seq _ (a-number 4) (λ n h. record { yields = λ s rest x l e. let r = some-bytes n .yields s rest x l e in (r .0 .1, r .1); stops = λ s k l e. some-bytes n .stops s k l e })
 
 length-words : (n : ℕ) (x : List ℕ) → length (words n x) ≡ n
 length-words zero x = refl
@@ -86,7 +100,7 @@ unfolding lengths
 some-lengths n = seq _ (some-bytes (4 * n)) (λ x h. gives (length-words n x, omega arith))
 
 a-known : {A : Type 0} (o : Option A) → Yields (known o) Any
-a-known none = record { yields = λ s rest a l e. absurd (let z : _≡_ {A = ℕ} 0 1 = cc in omega arith) }
+a-known none = record { yields = λ s rest a l e. absurd (let z : _≡_ {A = ℕ} 0 1 = cc in omega arith); stops = λ s k l e. let v : 13 ≡ k = cc in omega arith }
 a-known (some a) = gives tt
 
 a-code : {A : Type 0} (k : ℕ) (named : ℕ → Option A) → Yields (coded k named) Any
@@ -109,7 +123,7 @@ unfolding map judged
 a-map = seq _ (a-number 2) (λ bits h. pick (bad-map bits (map-of bits)) bits)
   where
     pick : (b : Bool) (bits : ℕ) → Yields (cond b (λ s. stop 12) (give (map-of bits))) Any
-    pick true bits = record { yields = λ s rest a l e. absurd (let z : _≡_ {A = ℕ} 0 1 = cc in omega arith) }
+    pick true bits = record { yields = λ s rest a l e. absurd (let z : _≡_ {A = ℕ} 0 1 = cc in omega arith); stops = λ s k l e. let v : 12 ≡ k = cc in omega arith }
     pick false bits = gives tt
 
 some-dims : Yields dims Any

@@ -16,7 +16,7 @@ use Rattle.sheet_fields.specs.Cursor.{from-at, Reads}
 use Rattle.sheet_fields.specs.declared.Cursor.{Cursor}
 use Rattle.sheet.specs.Sheet.{fields, sheet}
 use Rattle.sheet.specs.Said.{start}
-use Rattle.sheet_file.specs.Answer.{answer-of, after-of, sheet-answer, sheet-after, Sheet-promised}
+use Rattle.sheet.specs.Answer.{answer-of, after-of, sheet-answer, sheet-after, Sheet-promised}
 
 -- ---- byte parts
 
