@@ -14,7 +14,7 @@ use crate::numbers::MaybePanel;
 use crate::numbers::numbers_of;
 use layout::file_length;
 use panel::Answer;
-use sheet::refusal_number;
+use sheet_file::refusal_number;
 use wrap::wrap_hevc_grid_with_alpha;
 
 // A colour encoding: three code points of ISO/IEC 23091-2, and 1 for the full range, else 0.

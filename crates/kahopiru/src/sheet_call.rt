@@ -1,11 +1,12 @@
 // The call that turns a panel sheet into a file, in numbers.
 ghost use mathlib.Core.Path.{_≡_};
 ghost use lib.ListN.{length};
-ghost use Rattle.sheet.specs.Answer.{sheet-says, sheet-answer, sheet-after};
+ghost use Rattle.sheet.specs.Answer.{sheet-answer, sheet-after};
+ghost use Rattle.sheet_file.specs.Says.{sheet-says};
 ghost use Rattle.kahopiru.specs.Calls.{told};
 use crate::Told;
-use sheet::SheetAnswer;
-use sheet::sheet_file;
+use sheet_file::SheetAnswer;
+use sheet_file::sheet_file;
 
 // A sheet's answer in numbers.
 fn tell_sheet(a: SheetAnswer) -> Told

@@ -6,7 +6,7 @@ use native.Mathlib.Nat.{mod-eq-of-lt, zero-add, suc-add}
 use native.Mathlib.Omega.{arith}
 use lib.ListN.{length}
 use lib.Pow.{mod-pow-add, mod-mod-pow, shr-shr, field}
-use Rattle.octets.specs.Numbers.{_‖_, be}
+use Rattle.octets.specs.Numbers.{_‖_, be, value}
 use Rattle.octets.proofs.Lists.{cancel}
 
 pub length-be : (k n : ℕ) → length (be k n) ≡ k
@@ -60,3 +60,14 @@ be-mod j (suc k) n =
 -- one byte that fits is itself
 pub be-one : {n : ℕ} → n < 256 → be 1 n ≡ n ∷ []
 be-one {n} h = let e : n / 1 % 256 ≡ n = omega arith in ap (λ (k : ℕ). k ∷ []) e
+
+-- ---- the number that bytes say
+
+value-mod : (k n : ℕ) → value (be k n) ≡ n % 2 ^ (8 * k)
+value-mod zero n = omega arith
+value-mod (suc k) n =
+    let w : 8 * suc k ≡ 8 + 8 * k = omega arith in
+    (λ i. n / 2 ^ (8 * k) % 256 * 2 ^ (8 * length-be k n i) + value-mod k n i) ∙ sym (mod-pow-add n 8 (8 * k)) ∙ ap (λ (m : ℕ). n % 2 ^ m) (sym w)
+
+pub value-be : (k n : ℕ) → n < 2 ^ (8 * k) → value (be k n) ≡ n
+value-be k n h = value-mod k n ∙ mod-eq-of-lt h

@@ -2,6 +2,7 @@
 use mathlib.Core.List.{List, [], _∷_, _++_}
 use Prim.Native.Nat.{ℕ, zero, suc, _+_, _*_, _/_, _%_, _^_}
 use Prim.Native.Char.{code}
+use lib.ListN.{length}
 use Prim.Native.String.{String, [] as ε, _∷_ as _◂_}
 
 infixr 60 _‖_
@@ -13,6 +14,11 @@ a ‖ b = a ++ b
 abbrev pub be : ℕ → ℕ → List ℕ
 be zero n = []
 be (suc k) n = n / 2 ^ (8 * k) % 256 ∷ be k n
+
+-- bytes as a number, the highest first
+abbrev pub value : List ℕ → ℕ
+value [] = 0
+value (b ∷ l) = b * 2 ^ (8 * length l) + value l
 
 -- a text of the ASCII set, a byte a character
 abbrev pub text : String → List ℕ

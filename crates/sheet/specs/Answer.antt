@@ -5,16 +5,9 @@ use Prim.Native.Nat.{ℕ}
 use lib.ListN.{length}
 use Rattle.panel.specs.Panel.{Panel}
 use Rattle.panel.specs.Items.{ordinary}
-use Rattle.panel.specs.Answer.{Outcome, made, refused, write-answer, after}
+use Rattle.panel.specs.Answer.{Outcome, refused, write-answer, after}
 use Rattle.sheet_fields.specs.Read.{Read, got, stop}
 use Rattle.sheet.specs.Sheet.{sheet}
-use Rattle.sheet.specs.declared.SheetAnswer.{SheetAnswer}
-use Rattle.sheet.specs.declared.SheetAnswer.the-variants.{Length, Refused}
-
--- what the code's answer says
-abbrev pub sheet-says : SheetAnswer → Outcome
-sheet-says (Length n) = made n
-sheet-says (Refused k) = refused k
 
 abbrev pub answer-of : Read Panel → ℕ → Outcome
 answer-of (got p rest) room = write-answer ordinary p room

@@ -1,24 +1,21 @@
 -- The parts of a panel that the code's readings stand for: numbers by value, and byte parts as spans of the sheet.
 use mathlib.Core.Option.{Option, none, some}
-use mathlib.Core.List.{List, []}
+use mathlib.Core.List.{List}
 use Prim.Native.Nat.{ℕ}
 use lib.ListN.{take}
-use Rattle.panel.specs.Panel.{Tiles, Colour, Metadata, Gain, Panel}
-use Rattle.panel.specs.Of.{Lent, part, cicp-of, light-of, colour-of, alternate-of, gain-of, panel-of}
+use Rattle.panel.specs.Panel.{Metadata, Gain, Panel}
+use Rattle.panel.specs.Of.{Lent, part, light-of, alternate-of, panel-of}
 use Rattle.panel.specs.declared.gain_map.EncodedGainMap.{EncodedGainMap}
 use Rattle.panel.specs.declared.gain_map.MaybeGainMap.{MaybeGainMap}
 use Rattle.panel.specs.declared.gain_map.MaybeGainMap.the-variants as G
-use Rattle.layout.specs.Lent.{lent}
 use Rattle.sheet_fields.specs.Cursor.{span-of}
 use Rattle.sheet_fields.specs.declared.Cursor.{Cursor}
-use Rattle.sheet_fields.specs.declared.Span.{Span}
 use Rattle.sheet.specs.Sheet.{Pictures}
 use Rattle.sheet.specs.declared.picture.PictureSpans.{PictureSpans}
-use Rattle.sheet.specs.declared.color.ColorRead.{ColorRead}
 use Rattle.sheet.specs.declared.metadata.MetadataRead.{MetadataRead}
 use Rattle.sheet.specs.declared.gain.ImageRead.{ImageRead}
 use Rattle.sheet.specs.declared.gain.GainSpans.{GainSpans}
-use Rattle.sheet.specs.declared.file.SheetRead.{SheetRead}
+use Rattle.sheet.specs.declared.SheetRead.{SheetRead}
 
 -- the cursor at the front of a sheet
 abbrev pub start : Cursor
@@ -57,12 +54,20 @@ maybe-gain-said s G.None p = none
 maybe-gain-said s (G.Some g) p = some (gain-said s g p)
 
 -- the byte parts of a sheet that is read
-abbrev pub parts : List ℕ → SheetRead → List ℕ → List ℕ → Lent
-parts s r color-lengths alpha-lengths =
-    lent (span-of s (r .pictures .«color_hvcc»)) (span-of s (r .pictures .«alpha_hvcc»)) color-lengths alpha-lengths
-    (span-of s (r .pictures .«color_samples»)) (span-of s (r .pictures .«alpha_samples»)) (span-of s (r .icc)) (span-of s (r .exif))
-    (span-of s (r .gain .hvcc)) (span-of s (r .gain .sample)) (span-of s (r .gain .xmp)) (span-of s (r .gain .tmap)) (span-of s (r .gain .«alternate_icc»))
+abbrev pub lent-said : List ℕ → SheetRead → List ℕ → List ℕ → Lent
+lent-said s r color-lengths alpha-lengths =
+    record {
+      tiles = record { config = span-of s (r .pictures .«color_hvcc»); lengths = color-lengths; bytes = span-of s (r .pictures .«color_samples») };
+      alpha = record { config = span-of s (r .pictures .«alpha_hvcc»); lengths = alpha-lengths; bytes = span-of s (r .pictures .«alpha_samples») };
+      icc = span-of s (r .icc);
+      exif = span-of s (r .exif);
+      gain-hvcc = span-of s (r .gain .hvcc);
+      gain-sample = span-of s (r .gain .sample);
+      gain-xmp = span-of s (r .gain .xmp);
+      gain-tmap = span-of s (r .gain .tmap);
+      alternate-icc = span-of s (r .gain .«alternate_icc»);
+    }
 
 -- the panel of a sheet that is read
 unfoldable pub panel-said : List ℕ → SheetRead → List ℕ → List ℕ → Panel
-panel-said s r color alpha = panel-of (r .panel) (parts s r (take (r .pictures .«color_count») color) (take (r .pictures .«alpha_count») alpha))
+panel-said s r color alpha = panel-of (r .panel) (lent-said s r (take (r .pictures .«color_count») color) (take (r .pictures .«alpha_count») alpha))

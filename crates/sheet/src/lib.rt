@@ -1,77 +1,93 @@
-// The panel sheet: a panel as one run of bytes, and the call that turns it into a file or a refusal.
+// The panel sheet: a panel as one run of bytes. specs/ holds the definition of what a sheet says, field by field (Sheet, Map); here it is
+// read, numbers by value and byte parts as spans.
 
 pub mod color;
-pub mod file;
 pub mod gain;
 pub mod map;
 pub mod metadata;
 pub mod picture;
 
-ghost use mathlib.Core.Path.{_≡_};
-ghost use Prim.Native.Nat.{_≤_};
+ghost use Prim.Native.Nat.{_*_, _≤_};
 ghost use lib.ListN.{length};
-ghost use Rattle.panel.specs.Answer.{number, says};
-ghost use Rattle.sheet.specs.Answer.{sheet-says, Sheet-promised};
-use crate::file::read_sheet;
-use crate::file::write_panel;
-use panel::Answer;
-use panel::Refusal;
+ghost use Rattle.panel.specs.Panel.{Panel as PurePanel};
+ghost use Rattle.sheet_fields.specs.Cursor.{Reads};
+ghost use Rattle.sheet.specs.Sheet.{end, fields};
+ghost use Rattle.sheet.specs.Said.{start, panel-said};
+use crate::color::read_color;
+use crate::gain::GainSpans;
+use crate::gain::read_maybe_gain;
+use crate::map::read_map;
+use crate::metadata::read_metadata;
+use crate::picture::PictureSpans;
+use crate::picture::read_dims;
+use crate::picture::read_pictures;
+use panel::Panel;
+use sheet_fields::Cursor;
+use sheet_fields::Span;
+use sheet_fields::code::read_depth;
+use sheet_fields::left;
+use sheet_fields::refused;
 
-// What the sheet's call answers: the file's length, or the number of the refusal.
-pub enum SheetAnswer {
-    Length(u64),
-    Refused(u8),
+// The numbers of a panel, where its byte parts lie, and the cursor behind all fields.
+pub struct SheetRead {
+    pub panel: Panel,
+    pub pictures: PictureSpans,
+    pub icc: Span,
+    pub exif: Span,
+    pub gain: GainSpans,
+    pub next: Cursor,
 }
 
-// The number of a refusal.
-pub fn refusal_number(r: Refusal) -> u8
-    ensures { λ k. ⌜ k ≡ number r ⌝ }
+// The cursor at the end of the fields: refused where bytes are left over.
+fn at_end(sheet: &[u8], c: Cursor) -> Cursor
+    ensures { λ r. ⌜ ((p : PurePanel) → Reads (now (sheet .entry)) c (end p) p r) ⌝ }
 {
-    match r {
-        Refusal::GridSide => 1,
-        Refusal::TileCount => 2,
-        Refusal::SampleLengths => 3,
-        Refusal::ItemIds => 4,
-        Refusal::FileLength => 5,
-        Refusal::OutputLength => 6,
+    let at = c.at;
+    if left(sheet, at) != 0 {
+        return refused(c, 14);
     }
+    c
 }
 
-// What the panel is answered, as the sheet's answer.
-fn tell(a: Answer) -> SheetAnswer
-    ensures { λ r. ⌜ sheet-says r ≡ says a ⌝ }
+// All fields of a sheet. The lengths go to two lists that have an entry for every four bytes of the sheet.
+// Above 40 lines by its fields, one to a line.
+pub fn read_sheet(sheet: &[u8], color: &mut [u32], alpha: &mut [u32]) -> SheetRead
+    requires { ⌜ length (now sheet) ≤ 4 * length (now color) ⌝ }
+    requires { ⌜ length (now sheet) ≤ 4 * length (now alpha) ⌝ }
+    ensures { λ r. ⌜ Reads (now (sheet .entry)) start fields (panel-said (now (sheet .entry)) r (now (color .exit)) (now (alpha .exit))) (r .next) ⌝ }
+    ensures { λ r. ⌜ r .pictures .«color_count» ≤ length (now (color .exit)) ⌝ }
+    ensures { λ r. ⌜ r .pictures .«alpha_count» ≤ length (now (alpha .exit)) ⌝ }
 {
-    match a {
-        Answer::Length(n) => SheetAnswer::Length(n),
-        Answer::Refused(r) => SheetAnswer::Refused(refusal_number(r)),
+    let m = read_map(sheet, Cursor { at: 0, refusal: 0 });
+    let map = m.map;
+    let d = read_dims(sheet, m.next);
+    let dims = d.dims;
+    let k = read_depth(sheet, d.next);
+    let p = read_pictures(sheet, k.next, dims.rows * dims.cols, color, alpha);
+    let c = read_color(sheet, p.next, map);
+    let x = read_metadata(sheet, c.next, map);
+    let g = read_maybe_gain(sheet, x.next, map);
+    let next = at_end(sheet, g.next);
+    let bit_depth = k.depth;
+    let pictures = p.spans;
+    let color_meta = c.color;
+    let icc = c.icc;
+    let metadata = x.metadata;
+    let exif = x.exif;
+    let gain_map = g.gain;
+    let gain = g.spans;
+    SheetRead {
+        panel: Panel {
+            dims,
+            bit_depth,
+            color_meta,
+            metadata,
+            gain_map,
+        },
+        pictures,
+        icc,
+        exif,
+        gain,
+        next,
     }
-}
-
-// The file of a sheet that is short enough. A list of 3,072 lengths has an entry for every four bytes of 12,288.
-fn short_sheet_file(sheet: &[u8], out: &mut [u8]) -> SheetAnswer
-    requires { ⌜ length (now sheet) ≤ 12288 ⌝ }
-    ensures { λ r. ⌜ Sheet-promised (now (sheet .entry)) (now (out .entry)) (sheet-says r) (now (out .exit)) ⌝ }
-{
-    let mut color = [0u32; 3072];
-    let mut alpha = [0u32; 3072];
-    let r = read_sheet(sheet, &mut color, &mut alpha);
-    let next = r.next;
-    if next.refusal != 0 {
-        return SheetAnswer::Refused(next.refusal);
-    }
-    let pictures = r.pictures;
-    let colors = pictures.color_count;
-    let alphas = pictures.alpha_count;
-    let answer = write_panel(sheet, r, &color[..colors], &alpha[..alphas], out);
-    tell(answer)
-}
-
-// The file of a sheet in the output, and its length; or the number of the refusal, and the output as it was.
-pub fn sheet_file(sheet: &[u8], out: &mut [u8]) -> SheetAnswer
-    ensures { λ r. ⌜ Sheet-promised (now (sheet .entry)) (now (out .entry)) (sheet-says r) (now (out .exit)) ⌝ }
-{
-    if 12288 < sheet.len() {
-        return SheetAnswer::Refused(15);
-    }
-    short_sheet_file(sheet, out)
 }

@@ -8,9 +8,9 @@ use native.Mathlib.Omega.{arith}
 use lib.ListN.{length, take, drop, getD, set, length-append}
 use lib.Seq.{take-suc, take-suc-set, drop-drop}
 use lib.Pow.{pow-add, pow-mono}
-use Rattle.octets.specs.Numbers.{total}
+use Rattle.octets.specs.Numbers.{total, value}
 use Rattle.octets.proofs.Lists.{total-append}
-use Rattle.sheet_fields.specs.Fields.{value, words}
+use Rattle.sheet_fields.specs.Fields.{words}
 
 -- one byte more
 pub value-snoc : (x : List ℕ) (b : ℕ) → value (x ++ (b ∷ [])) ≡ value x * 256 + b

@@ -2,19 +2,15 @@
 use mathlib.Core.Bool.{Bool, true, false, cond}
 use mathlib.Core.Option.{Option, none, some}
 use mathlib.Core.List.{List, [], _∷_}
-use Prim.Native.Nat.{ℕ, zero, suc, _+_, _*_, _^_}
+use Prim.Native.Nat.{ℕ, zero, suc, _*_}
 use lib.Dec.{ltb}
 use lib.ListN.{length, take, drop}
+use Rattle.octets.specs.Numbers.{value}
 use Rattle.sheet_fields.specs.Read.{Reader, got, stop, give, refuse, _then_}
 
 -- the next n bytes; 11 where the sheet ends before them
 unfoldable pub bytes : ℕ → Reader (List ℕ)
 bytes n s = cond (ltb (length s) n) (stop 11) (got (take n s) (drop n s))
-
--- the number that bytes say, the highest first
-abbrev pub value : List ℕ → ℕ
-value [] = 0
-value (b ∷ x) = b * 2 ^ (8 * length x) + value x
 
 -- a number of k bytes
 unfoldable pub number : ℕ → Reader ℕ

@@ -1,7 +1,7 @@
 // Prints the file of a panel sheet, and nothing else, or `refused N` and a line feed.
 use libc::STDOUT_FILENO;
-use sheet::SheetAnswer;
-use sheet::sheet_file;
+use sheet_file::SheetAnswer;
+use sheet_file::sheet_file;
 
 // Prints so many bytes of the room.
 fn print_file(room: &[u8], size: u64) {

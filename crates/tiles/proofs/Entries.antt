@@ -2,29 +2,15 @@
 use mathlib.Core.Path.{_≡_, refl, sym, ap, _∙_}
 use mathlib.Core.List.{List, [], _∷_, _++_, map, flatten, flatMap, append-assoc}
 use Prim.Native.Nat.{ℕ, zero, suc, _+_, _*_, _/_, _%_, _^_, _≤_, _<_}
-use native.Mathlib.Nat.{mod-eq-of-lt, add-zero}
+use native.Mathlib.Nat.{add-zero}
 use native.Mathlib.Omega.{arith}
 use lib.ListN.{length, length-append, take, drop, getD}
 use lib.Seq.{drop-drop, drop-at, take-at}
-use lib.Pow.{mod-pow-add}
 use Rattle.octets.specs.Numbers.{_‖_, be, total}
 use Rattle.octets.proofs.Lists.{flatten-append}
-use Rattle.octets.proofs.Numbers.{length-be}
 use Rattle.panel.specs.Items.{ordinary}
 use Rattle.panel.specs.Iloc.{Extent, Location, extents, located, entry}
 use Rattle.panel.proofs.Payloads.{length-entry}
-use Rattle.tiles.specs.Found.{value}
-
--- ---- numbers
-
-value-mod : (k n : ℕ) → value (be k n) ≡ n % 2 ^ (8 * k)
-value-mod zero n = omega arith
-value-mod (suc k) n =
-    let w : 8 * suc k ≡ 8 + 8 * k = omega arith in
-    (λ i. n / 2 ^ (8 * k) % 256 * 2 ^ (8 * length-be k n i) + value-mod k n i) ∙ sym (mod-pow-add n 8 (8 * k)) ∙ ap (λ (m : ℕ). n % 2 ^ m) (sym w)
-
-pub value-be : (k n : ℕ) → n < 2 ^ (8 * k) → value (be k n) ≡ n
-value-be k n h = value-mod k n ∙ mod-eq-of-lt h
 
 -- ---- behind a front of so many bytes
 

@@ -7,9 +7,10 @@ use Prim.Native.Nat.{ℕ, _+_, _*_, _-_, _^_, _≤_, _<_}
 use native.Mathlib.Omega.{arith}
 use lib.ListN.{length, length-append, take, drop, getD}
 use lib.Seq.{drop-drop}
-use Rattle.octets.specs.Numbers.{_‖_, be, total}
+use Rattle.octets.specs.Numbers.{_‖_, be, value, total}
 use Rattle.octets.specs.Boxes.{Box, kind, tag, full, boxes}
 use Rattle.octets.proofs.Lists.{flatten-append, flatMap-append, length-flatMap}
+use Rattle.octets.proofs.Numbers.{value-be}
 use Rattle.octets.proofs.Boxes.{boxes-cons, boxes-one, boxes-append}
 use Rattle.panel.specs.Panel.{Panel}
 use Rattle.panel.specs.Items.{ordinary, given, shape, colour-grid, alpha-tile, alpha-grid, exif-id, other-payloads, payloads}
@@ -23,9 +24,9 @@ use Rattle.panel.proofs.Payloads.{cut, length-samples, length-extents, length-l
 use Rattle.length.specs.Parts.{Even}
 use Rattle.length.proofs.File.{even-accepted, length-file, data-at-size, length-mdat, data-begins}
 use Rattle.tiles.specs.Lookup.{names-colour, pictures, tile-refusal, tile-bytes, alpha-index}
-use Rattle.tiles.specs.Found.{pictures-of, value, read, entry-at, Locates}
+use Rattle.tiles.specs.Found.{pictures-of, read, entry-at, Locates}
 use Rattle.tiles.proofs.Answers.{colour-within, alpha-within, colour-part, alpha-part}
-use Rattle.tiles.proofs.Entries.{value-be, behind-front, Begins, begins, location-of, entry-of, within, payload-of}
+use Rattle.tiles.proofs.Entries.{behind-front, Begins, begins, location-of, entry-of, within, payload-of}
 
 -- ---- boxes with heads of a fixed length
 

@@ -1,8 +1,9 @@
 -- 14496-12, 8.11.3: an item's entry of iloc, as it is read from the bytes of a file.
 use mathlib.Core.Path.{_≡_}
 use mathlib.Core.List.{List, [], _∷_}
-use Prim.Native.Nat.{ℕ, _+_, _*_, _-_, _^_}
+use Prim.Native.Nat.{ℕ, _+_, _*_, _-_}
 use lib.ListN.{length, take, drop}
+use Rattle.octets.specs.Numbers.{value}
 use Rattle.octets.specs.Boxes.{boxes}
 use Rattle.panel.specs.Panel.{Panel}
 use Rattle.panel.specs.Items.{ordinary, shape}
@@ -12,11 +13,6 @@ use Rattle.tiles.specs.Lookup.{Pictures, pictures}
 -- what a lookup in a panel's tiles is lent
 abbrev pub pictures-of : Panel → Pictures
 pictures-of p = pictures (p .tiles .lengths) (p .alpha .lengths) (p .tiles .bytes) (p .alpha .bytes)
-
--- bytes as a number, the highest first
-abbrev pub value : List ℕ → ℕ
-value [] = 0
-value (b ∷ l) = b * 2 ^ (8 * length l) + value l
 
 -- the number in k bytes from i on
 abbrev pub read : ℕ → ℕ → List ℕ → ℕ

@@ -4,7 +4,7 @@ use native.Mathlib.Omega.{arith}
 use mathlib.Core.Path.{_≡_, ap, _∙_}
 use Prim.Native.Nat.{_+_, _-_}
 use lib.ListN.{take, drop}
-use Rattle.sheet_fields.specs.Fields.{value}
+use Rattle.octets.specs.Numbers.{value}
 use Rattle.sheet_fields.proofs.length_at.Statement.{statement}
 use Rattle.sheet_fields.proofs.length_at.Tie as tie
 

@@ -5,7 +5,7 @@ use mathlib.Core.Path.{_≡_, _∙_}
 use Prim.Native.Nat.{_+_, _≤_, _<_, _-_, _*_, _^_}
 use lib.ListN.{length, take, getD}
 use lib.Seq.{take-length}
-use Rattle.sheet_fields.specs.Fields.{value}
+use Rattle.octets.specs.Numbers.{value}
 use Rattle.sheet_fields.proofs.Values.{value-step, below-step, within}
 use Rattle.sheet_fields.proofs.value_of.Statement.{statement}
 use Rattle.sheet_fields.proofs.value_of.Tie as tie

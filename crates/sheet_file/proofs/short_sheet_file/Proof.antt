@@ -2,10 +2,10 @@
 use borrow.Author.Needs.{needs}
 use mathlib.Core.Path.{sym}
 use lib.Seq.{length-take-le}
 use Rattle.sheet.specs.Said.{panel-said}
-use Rattle.sheet.proofs.Panels.{by-stop, by-file}
-use Rattle.sheet.proofs.short_sheet_file.Statement.{statement}
-use Rattle.sheet.proofs.short_sheet_file.Tie as tie
+use Rattle.sheet_file.proofs.Promises.{by-stop, by-file}
+use Rattle.sheet_file.proofs.short_sheet_file.Statement.{statement}
+use Rattle.sheet_file.proofs.short_sheet_file.Tie as tie
 
 returns : tie.Need-returns
 returns c =

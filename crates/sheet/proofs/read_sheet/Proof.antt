@@ -4,8 +4,8 @@ use Rattle.checks.proofs.Tests.{below}
 use Rattle.sheet.specs.Sheet.{fields}
 use Rattle.sheet_fields.proofs.Reading.{goes-on, as-well}
 use Rattle.sheet.proofs.Panels.{sections}
-use Rattle.sheet.proofs.file.read_sheet.Statement.{statement}
-use Rattle.sheet.proofs.file.read_sheet.Tie as tie
+use Rattle.sheet.proofs.read_sheet.Statement.{statement}
+use Rattle.sheet.proofs.read_sheet.Tie as tie
 
 mul-read-pictures : tie.Need-mul-read-pictures
 mul-read-pictures c =

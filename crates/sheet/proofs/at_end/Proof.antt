@@ -2,8 +2,8 @@
 use borrow.Author.Needs.{needs}
 use mathlib.Core.Path.{sym, _∙_}
 use Rattle.sheet.proofs.Fields.{over, finished}
-use Rattle.sheet.proofs.file.at_end.Statement.{statement}
-use Rattle.sheet.proofs.file.at_end.Tie as tie
+use Rattle.sheet.proofs.at_end.Statement.{statement}
+use Rattle.sheet.proofs.at_end.Tie as tie
 
 returns : tie.Need-returns
 returns c =

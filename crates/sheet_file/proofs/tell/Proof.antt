@@ -2,8 +2,8 @@
 use borrow.Author.Needs.{needs}
 use mathlib.Core.Path.{sym, ap, _∙_}
 use Rattle.panel.specs.Answer.{refused, says}
-use Rattle.sheet.proofs.tell.Statement.{statement}
-use Rattle.sheet.proofs.tell.Tie as tie
+use Rattle.sheet_file.proofs.tell.Statement.{statement}
+use Rattle.sheet_file.proofs.tell.Tie as tie
 
 returns : tie.Need-returns
 returns c = ap says (sym (c .before .a .given .1))

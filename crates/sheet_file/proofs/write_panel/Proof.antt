@@ -1,10 +1,12 @@
 -- The writing call, with the spans as byte parts.
 use borrow.Author.Needs.{needs}
-use Rattle.sheet.proofs.Panels.{lent-alike, promised-alike}
-use Rattle.sheet.proofs.file.write_panel.Statement.{statement}
-use Rattle.sheet.proofs.file.write_panel.Tie as tie
+use Rattle.layout.specs.Lent.{lent}
+use Rattle.sheet_file.proofs.Promises.{lent-alike, promised-alike}
+use Rattle.sheet_file.proofs.write_panel.Statement.{statement}
+use Rattle.sheet_file.proofs.write_panel.Tie as tie
 
 returns : tie.Need-returns
+unfolding lent
 returns c =
     let w = c .before .before in
     let p11 = w .before .before in

@@ -1,8 +1,8 @@
 -- Too long, or not.
 use borrow.Author.Needs.{needs}
-use Rattle.sheet.proofs.Panels.{too-long}
-use Rattle.sheet.proofs.sheet_file.Statement.{statement}
-use Rattle.sheet.proofs.sheet_file.Tie as tie
+use Rattle.sheet_file.proofs.Promises.{too-long}
+use Rattle.sheet_file.proofs.sheet_file.Statement.{statement}
+use Rattle.sheet_file.proofs.sheet_file.Tie as tie
 
 returns : tie.Need-returns
 returns c = too-long _ (c .if1 .taken)
