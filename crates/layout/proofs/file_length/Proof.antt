@@ -13,7 +13,7 @@ unfolding lent
 returns c =
     let c2 = c .before in
     let c1 = c2 .before .before in
-    (stop-1 _ _ (sym (c2 .bad-grid .ensures) ∙ c .if1 .taken), (c1 .numbers-fit .ensures) _)
+    (stop-1 _ _ (sym (c2 .bad-grid .ensures) ∙ c .if1 .taken), (c1 .numbers-fit .ensures) .1 _)
 
 returns-2 : tie.Need-returns-2
 unfolding lent
@@ -22,7 +22,7 @@ returns-2 c =
     let c2 = c3 .before .before in
     let c1 = c2 .before .before in
     let sides = sym (c2 .bad-grid .ensures) ∙ c3 .before .if1 .left in
-    (stop-2 _ _ sides (sym (c3 .bad-counts .ensures) ∙ c .if2 .taken), (c1 .numbers-fit .ensures) _)
+    (stop-2 _ _ sides (sym (c3 .bad-counts .ensures) ∙ c .if2 .taken), (c1 .numbers-fit .ensures) .1 _)
 
 returns-3 : tie.Need-returns-3
 unfolding lent
@@ -33,7 +33,7 @@ returns-3 c =
     let c1 = c2 .before .before in
     let sides = sym (c2 .bad-grid .ensures) ∙ c3 .before .if1 .left in
     let counts = sym (c3 .bad-counts .ensures) ∙ c4 .before .if2 .left in
-    (stop-3 _ _ sides counts (sym (c4 .bad-sums .ensures) ∙ c .if3 .taken), (c1 .numbers-fit .ensures) _)
+    (stop-3 _ _ sides counts (sym (c4 .bad-sums .ensures) ∙ c .if3 .taken), (c1 .numbers-fit .ensures) .1 _)
 
 cast-shape-of : tie.Need-cast-shape-of
 cast-shape-of c =
@@ -72,7 +72,7 @@ returns-4 c =
     let sides = sym (c2 .bad-grid .ensures) ∙ c3 .before .if1 .left in
     let counts = sym (c3 .bad-counts .ensures) ∙ c4 .before .if2 .left in
     let sums = sym (c4 .bad-sums .ensures) ∙ c5 .before .if3 .left in
-    (stop-4 _ _ (record { sides = sides; counts = counts; sums = sums }) ((c5 .shape-of .ensures) .0 _ refl) (rw ((c6 .last-id .ensures) .0) at (c .if4 .taken)), (c1 .numbers-fit .ensures) _)
+    (stop-4 _ _ (record { sides = sides; counts = counts; sums = sums }) ((c5 .shape-of .ensures) .0 _ refl) (rw ((c6 .last-id .ensures) .0) at (c .if4 .taken)), (c1 .numbers-fit .ensures) .1 _)
 
 returns-5 : tie.Need-returns-5
 unfolding lent
@@ -93,7 +93,7 @@ returns-5 c =
     let counts = sym (c3 .bad-counts .ensures) ∙ c4 .before .if2 .left in
     let sums = sym (c4 .bad-sums .ensures) ∙ c5 .before .if3 .left in
     let last = rw ((c6 .last-id .ensures) .0) at (c7 .before .if4 .left) in
-    (stop-5 _ _ (record { sides = sides; counts = counts; sums = sums }) ((c5 .shape-of .ensures) .0 _ refl) last ((c12 .file-size .ensures) _ ((c11 .sizes-of .ensures) .0 _ ((c8 .lengths-of .ensures) _ refl refl refl refl refl refl (c7 .gain-lengths .ensures)) ((c5 .shape-of .ensures) .0 _ refl) (c9 .hvcc-uses-rext .ensures) ((c10 .gain-uses-rext .ensures) _ refl))) (c .if5 .taken), (c1 .numbers-fit .ensures) _)
+    (stop-5 _ _ (record { sides = sides; counts = counts; sums = sums }) ((c5 .shape-of .ensures) .0 _ refl) last ((c12 .file-size .ensures) _ ((c11 .sizes-of .ensures) .0 _ ((c8 .lengths-of .ensures) _ refl refl refl refl refl refl (c7 .gain-lengths .ensures)) ((c5 .shape-of .ensures) .0 _ refl) (c9 .hvcc-uses-rext .ensures) ((c10 .gain-uses-rext .ensures) _ refl))) (c .if5 .taken), (c1 .numbers-fit .ensures) .1 _)
 
 returns-6 : tie.Need-returns-6
 unfolding lent
@@ -114,7 +114,7 @@ returns-6 c =
     let counts = sym (c3 .bad-counts .ensures) ∙ c4 .before .if2 .left in
     let sums = sym (c4 .bad-sums .ensures) ∙ c5 .before .if3 .left in
     let last = rw ((c6 .last-id .ensures) .0) at (c7 .before .if4 .left) in
-    (done _ _ (record { sides = sides; counts = counts; sums = sums }) ((c5 .shape-of .ensures) .0 _ refl) last ((c12 .file-size .ensures) _ ((c11 .sizes-of .ensures) .0 _ ((c8 .lengths-of .ensures) _ refl refl refl refl refl refl (c7 .gain-lengths .ensures)) ((c5 .shape-of .ensures) .0 _ refl) (c9 .hvcc-uses-rext .ensures) ((c10 .gain-uses-rext .ensures) _ refl))) (c .if5 .left), (c1 .numbers-fit .ensures) _)
+    (done _ _ (record { sides = sides; counts = counts; sums = sums }) ((c5 .shape-of .ensures) .0 _ refl) last ((c12 .file-size .ensures) _ ((c11 .sizes-of .ensures) .0 _ ((c8 .lengths-of .ensures) _ refl refl refl refl refl refl (c7 .gain-lengths .ensures)) ((c5 .shape-of .ensures) .0 _ refl) (c9 .hvcc-uses-rext .ensures) ((c10 .gain-uses-rext .ensures) _ refl))) (c .if5 .left), (c1 .numbers-fit .ensures) .1 _)
 
 pub file-length-spec : {M : Type 1} → statement M
 file-length-spec = tie.close (tie.spec (λ c κs. search needs) (λ c κs. search needs) returns (λ c κs. search needs) returns-2 (λ c κs. search needs) returns-3 cast-shape-of (λ c κs. search needs) last-id-requires returns-4 (λ c κs. search needs) (λ c κs. search needs) (λ c κs. search needs) (λ c κs. search needs) (λ c κs. search needs) (λ c κs. search needs) returns-5 returns-6)
