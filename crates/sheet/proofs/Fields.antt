@@ -1,11 +1,11 @@
 -- Laws of the fields of a sheet: the map, bytes by the sum of their lengths, and the end.
-use mathlib.Core.Path.{_≡_, refl, sym, ap, _∙_}
-use mathlib.Core.Bool.{Bool, true, false, cond}
+use mathlib.Core.Path.{_≡_, refl, sym}
+use mathlib.Core.Bool.{true, false}
 use mathlib.Core.List.{List, [], _∷_}
 use Prim.Native.Nat.{ℕ, zero, suc}
 use native.Mathlib.Omega.{arith}
 use lib.ListN.{length, drop}
-use Rattle.sheet_fields.specs.Read.{Reader, got, stop, give, refuse}
+use Rattle.sheet_fields.specs.Read.{stop, give}
 use Rattle.sheet_fields.specs.Fields.{bytes}
 use Rattle.sheet_fields.specs.Cursor.{from-at, Reads, refused-at}
 use Rattle.sheet_fields.specs.declared.Cursor.{Cursor}

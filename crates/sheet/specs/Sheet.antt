@@ -1,6 +1,6 @@
 -- The panel sheet: the panel that a list of bytes says, or the first refusal in reading order.
-use mathlib.Core.Bool.{Bool, true, false, cond}
-use mathlib.Core.Option.{Option, none, some, Option·getD}
+use mathlib.Core.Bool.{Bool, cond}
+use mathlib.Core.Option.{Option, none, Option·getD}
 use mathlib.Core.List.{List, [], _∷_}
 use Prim.Native.Nat.{ℕ, _*_}
 use lib.Dec.{ltb}

@@ -1,5 +1,4 @@
 // The gain map, with its tone map and its alternate colour.
-ghost use mathlib.Core.Path.{_≡_};
 ghost use Rattle.sheet_fields.specs.Fields.{optional};
 ghost use Rattle.sheet_fields.specs.Cursor.{Reads};
 ghost use Rattle.sheet.specs.Sheet.{image, gain};

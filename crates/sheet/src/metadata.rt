@@ -1,5 +1,4 @@
 // Orientation, light level and Exif.
-ghost use mathlib.Core.Path.{_≡_};
 ghost use Rattle.panel.specs.Of.{light-of};
 ghost use Rattle.sheet_fields.specs.Fields.{optional};
 ghost use Rattle.sheet_fields.specs.Cursor.{Reads};

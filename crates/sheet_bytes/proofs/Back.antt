@@ -1,26 +1,24 @@
 -- Reading the sheet of a panel gives the panel back.
 use mathlib.Core.Path.{_≡_, refl, sym, ap, _∙_}
-use mathlib.Core.Bool.{Bool, cond}
+use mathlib.Core.Bool.{cond}
 use mathlib.Core.Option.{Option, none, some}
-use mathlib.Core.List.{List, [], _++_}
-use Prim.Native.Nat.{ℕ, _+_, _*_, _^_, _≤_, _<_}
+use mathlib.Core.List.{List, []}
+use Prim.Native.Nat.{ℕ, _*_, _^_, _≤_, _<_}
 use native.Mathlib.Omega.{arith}
 use borrow.Author.Tests.{le-ltb}
 use lib.ListN.{length, length-append}
-use Rattle.octets.specs.Numbers.{_‖_, be, total}
-use Rattle.panel.specs.Panel.{Tiles, Colour, Metadata, Gain, Panel}
+use Rattle.octets.specs.Numbers.{be, total}
+use Rattle.panel.specs.Panel.{Colour, Gain, Panel}
 use Rattle.panel.specs.Items.{has, tone-of}
 use Rattle.panel.specs.Agreement.{shown, filled}
-use Rattle.panel.specs.Widths.{Of, Light-fits, Gain-fits, Fits}
-use Rattle.panel.specs.declared.GridDims.{GridDims}
+use Rattle.panel.specs.Widths.{Of, Light-fits, Gain-fits}
 use Rattle.panel.specs.declared.metadata.ContentLightLevel.{ContentLightLevel}
-use Rattle.codes.specs.Codes.{depth-code}
 use Rattle.sheet_fields.specs.Read.{got, stop}
 use Rattle.sheet_fields.specs.Fields.{string, optional}
 use Rattle.sheet_fields.specs.Codes.{orientation, cicp}
 use Rattle.sheet.specs.Sheet.{Pictures, dims, pictures, colour, oriented, light, metadata, image, alternate, gain, fields, sheet}
 use Rattle.sheet.specs.declared.map.Map.{Map}
-use Rattle.sheet_bytes.specs.Bytes.{string-bytes, cicp-bytes, optional-bytes, dims-bytes, lengths-bytes, pictures-bytes, colour-bytes, turned, orientation-bytes, light-bytes, metadata-bytes, image-bytes, cicp-in, icc-in, alternate-in, alternate-bytes, gain-bytes, present, bits-of, pictures-in, sheet-bytes}
+use Rattle.sheet_bytes.specs.Bytes.{string-bytes, cicp-bytes, optional-bytes, dims-bytes, pictures-bytes, colour-bytes, turned, orientation-bytes, light-bytes, metadata-bytes, image-bytes, cicp-in, icc-in, alternate-in, alternate-bytes, gain-bytes, present, pictures-in, sheet-bytes}
 use Rattle.sheet_bytes.specs.Sayable.{Tiled, Shown, Sayable}
 use Rattle.sheet_bytes.proofs.Says.{Says, Ends, and-then, closes, as-well, off-bytes, off-number, off-string, off-lengths, off-optional, and-ends, last-ends}
 use Rattle.sheet_bytes.proofs.Codes.{off-depth, off-orientation, turned-back, off-cicp}

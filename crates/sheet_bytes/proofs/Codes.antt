@@ -2,7 +2,6 @@
 use mathlib.Core.Path.{_≡_, refl}
 use mathlib.Core.Bool.{Bool, true, false}
 use mathlib.Core.Option.{some, Option·getD}
-use Prim.Native.Nat.{ℕ}
 use Rattle.octets.specs.Numbers.{be, value}
 use Rattle.panel.specs.Types.{primaries-code, transfer-code, matrix-code}
 use Rattle.panel.specs.Codes.{named, every-primaries, every-transfer, every-matrix}

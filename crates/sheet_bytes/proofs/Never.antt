@@ -9,7 +9,7 @@ use borrow.Author.Tests.{eq-eqb, le-ltb, lt-leb, ltb-false}
 use lib.Dec.{ltb}
 use lib.ListN.{length}
 use Rattle.octets.specs.Numbers.{_‖_, total}
-use Rattle.panel.specs.Panel.{Tiles, Colour, Gain, Panel}
+use Rattle.panel.specs.Panel.{Colour, Gain, Panel}
 use Rattle.panel.specs.Items.{ordinary, has, given, shape}
 use Rattle.panel.specs.Iloc.{wide}
 use Rattle.panel.specs.File.{rext, gain-rext, file}
@@ -22,7 +22,7 @@ use Rattle.panel.specs.declared.metadata.Orientation.{Orientation}
 use Rattle.panel.specs.declared.metadata.Orientation.the-variants.{Normal, FlipH, Rotate180, FlipV, Transpose, Rotate90, Transverse, Rotate270}
 use Rattle.length.specs.Parts.{Even}
 use Rattle.length.specs.Properties.{turn-count}
-use Rattle.length.specs.Shares.{Extra, share, wide-grid, alternate-cicp, light-level, grid-extras, turn-extras, exif-extras, colour-extras, profile-extras, alternate-extras, tone-extras, gain-extras, extras, bare, replaced, meetings}
+use Rattle.length.specs.Shares.{Extra, share, wide-grid, alternate-cicp, light-level, grid-extras, turn-extras, exif-extras, colour-extras, profile-extras, alternate-extras, tone-extras, gain-extras, extras}
 use Rattle.length.proofs.Shares.{length-as-sum}
 use Rattle.sheet_fields.specs.Read.{Read, got, stop}
 use Rattle.sheet.specs.Sheet.{fields, sheet}

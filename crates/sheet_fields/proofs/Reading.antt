@@ -7,10 +7,9 @@ use Prim.Native.Nat.{ℕ, zero, suc, _+_, _≤_, _<_}
 use borrow.Author.Tests.{lt-ltb, le-ltb}
 use native.Mathlib.Nat.{min-le-left, min-le-right}
 use native.Mathlib.Omega.{arith}
-use lib.Dec.{ltb}
 use lib.ListN.{length, take, drop, length-take, length-drop}
 use lib.Seq.{drop-drop}
-use Rattle.sheet_fields.specs.Read.{Read, got, stop, Reader, give, refuse, onward, _then_}
+use Rattle.sheet_fields.specs.Read.{got, stop, Reader, give, onward, _then_}
 use Rattle.sheet_fields.specs.Fields.{bytes, known, optional}
 use Rattle.sheet_fields.specs.Cursor.{span-of, from-at, from, Reads, earlier, refused-at}
 use Rattle.sheet_fields.specs.declared.Cursor.{Cursor}

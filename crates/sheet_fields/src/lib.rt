@@ -1,4 +1,5 @@
 // The fields of a panel sheet, each read from a cursor on. A reading that has met a refusal stays at it: what is read after that says nothing.
+
 pub mod code;
 pub mod optional;
 
@@ -101,7 +102,7 @@ pub fn read_bytes(sheet: &[u8], c: Cursor, n: usize) -> BytesRead
 }
 
 // The number that at most four bytes say, the highest first.
-pub fn value_of(x: &[u8]) -> u32
+fn value_of(x: &[u8]) -> u32
     requires { ⌜ length (now x) ≤ 4 ⌝ }
     ensures { λ r. ⌜ r ≡ value (now (x .entry)) ⌝ }
     ensures { λ r. ⌜ r < 2 ^ (8 * length (now (x .entry))) ⌝ }
@@ -138,7 +139,7 @@ pub fn read_string(sheet: &[u8], c: Cursor) -> BytesRead
 }
 
 // The length in the four bytes at a position.
-pub fn length_at(x: &[u8], at: usize) -> u32
+fn length_at(x: &[u8], at: usize) -> u32
     requires { ⌜ at + 4 ≤ length (now x) ⌝ }
     ensures { λ r. ⌜ r ≡ value (take 4 (drop at (now (x .entry)))) ⌝ }
 {
@@ -147,7 +148,7 @@ pub fn length_at(x: &[u8], at: usize) -> u32
 }
 
 // Puts n lengths of four bytes each into the output, and answers their sum.
-pub fn put_lengths(x: &[u8], n: usize, out: &mut [u32]) -> usize
+fn put_lengths(x: &[u8], n: usize, out: &mut [u32]) -> usize
     requires { ⌜ 4 * n ≤ length (now x) ⌝ }
     requires { ⌜ n ≤ length (now out) ⌝ }
     requires { ⌜ n < 4294967296 ⌝ }

@@ -1,5 +1,4 @@
 // The fields of a sheet that are there only if a bit of its map stands.
-ghost use mathlib.Core.Path.{_≡_};
 ghost use Rattle.panel.specs.Of.{part, cicp-of};
 ghost use Rattle.sheet_fields.specs.Fields.{string, optional};
 ghost use Rattle.sheet_fields.specs.Codes.{cicp};

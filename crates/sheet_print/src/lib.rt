@@ -3,7 +3,7 @@ use libc::STDOUT_FILENO;
 use sheet_file::SheetAnswer;
 use sheet_file::sheet_file;
 
-// Prints so many bytes of the room.
+// Prints so many bytes of the room. A file is never longer than the room that it was written into.
 fn print_file(room: &[u8], size: u64) {
     let n = size as usize;
     if n <= room.len() {

@@ -24,7 +24,13 @@ returns c =
     let d = k .before .before in
     let m = d .before .before in (
       as-well (sections _ _ _ _)
-          (goes-on _ (m .read-map .ensures) (goes-on _ (d .read-dims .ensures .0) (goes-on _ (k .read-depth .ensures) (goes-on _ (p .read-pictures .ensures .0) (goes-on _ (l .read-color .ensures) (goes-on _ (x .read-metadata .ensures) (goes-on _ (g .read-maybe-gain .ensures) (e .at-end .ensures _)))))))),
+          (goes-on _ (m .read-map .ensures)
+          (goes-on _ (d .read-dims .ensures .0)
+          (goes-on _ (k .read-depth .ensures)
+          (goes-on _ (p .read-pictures .ensures .0)
+          (goes-on _ (l .read-color .ensures)
+          (goes-on _ (x .read-metadata .ensures)
+          (goes-on _ (g .read-maybe-gain .ensures) (e .at-end .ensures _)))))))),
       (p .read-pictures .ensures .1 .0, p .read-pictures .ensures .1 .1),
     )
 

@@ -1,12 +1,11 @@
 -- The value of the bytes that are read.
 use borrow.Author.Needs.{needs}
 use native.Mathlib.Omega.{arith}
-use mathlib.Core.Path.{_≡_, sym, ap, _∙_}
+use mathlib.Core.Path.{sym, ap, _∙_}
 use Prim.Native.Nat.{_≤_}
 use lib.ListN.{length}
 use Rattle.octets.specs.Numbers.{value}
 use Rattle.sheet_fields.specs.Fields.{number}
-use Rattle.sheet_fields.specs.Cursor.{span-of}
 use Rattle.sheet_fields.proofs.Reading.{goes-on, done, as-well, span-size}
 use Rattle.sheet_fields.proofs.Values.{within}
 use Rattle.sheet_fields.proofs.read_number.Statement.{statement}

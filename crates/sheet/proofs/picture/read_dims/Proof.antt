@@ -14,7 +14,12 @@ returns c =
     let n3 = n4 .before in
     let n2 = n3 .before in
     let n1 = n2 .before in (
-      goes-on _ (n1 .read-number .ensures .0) (goes-on _ (n2 .read-number2 .ensures .0) (goes-on _ (n3 .read-number3 .ensures .0) (goes-on _ (n4 .read-number4 .ensures .0) (goes-on _ (n5 .read-number5 .ensures .0) (goes-on _ (n6 .read-number6 .ensures .0) done))))),
+      goes-on _ (n1 .read-number .ensures .0)
+          (goes-on _ (n2 .read-number2 .ensures .0)
+          (goes-on _ (n3 .read-number3 .ensures .0)
+          (goes-on _ (n4 .read-number4 .ensures .0)
+          (goes-on _ (n5 .read-number5 .ensures .0)
+          (goes-on _ (n6 .read-number6 .ensures .0) done))))),
       (n1 .read-number .ensures .1, n2 .read-number2 .ensures .1),
     )
 

@@ -15,7 +15,12 @@ returns c =
     let l1 = l2 .before .before .before .before in
     let s2 = l1 .before .before in
     let s1 = s2 .before in (
-      goes-on _ (s1 .read-string .ensures) (goes-on _ (s2 .read-string2 .ensures) (goes-on _ (l1 .read-lengths .ensures .0) (goes-on _ (l2 .read-lengths2 .ensures .0) (goes-on _ (by-sum (l1 .read-lengths .ensures .1 .0) (b1 .read-bytes .ensures .0)) (goes-on _ (by-sum (l2 .read-lengths2 .ensures .1 .0) (b2 .read-bytes2 .ensures .0)) done))))),
+      goes-on _ (s1 .read-string .ensures)
+          (goes-on _ (s2 .read-string2 .ensures)
+          (goes-on _ (l1 .read-lengths .ensures .0)
+          (goes-on _ (l2 .read-lengths2 .ensures .0)
+          (goes-on _ (by-sum (l1 .read-lengths .ensures .1 .0) (b1 .read-bytes .ensures .0))
+          (goes-on _ (by-sum (l2 .read-lengths2 .ensures .1 .0) (b2 .read-bytes2 .ensures .0)) done))))),
       (l1 .read-lengths .ensures .1 .1, l2 .read-lengths2 .ensures .1 .1),
     )
 
