@@ -3,8 +3,8 @@ use mathlib.Core.Bool.{Bool, true, false}
 use mathlib.Core.Option.{Option, none, some, bind}
 use mathlib.Core.List.{List, [], _∷_}
 use Prim.Native.Nat.{ℕ}
-use Rattle.panel.specs.Types.{primaries-code, transfer-code, matrix-code}
-use Rattle.panel.specs.Codes.{named, every-primaries, every-transfer, every-matrix}
+use Rattle.panel.specs.Codes.{named, primaries-named, transfer-named, matrix-named}
+use Rattle.panel.specs.Items.{has}
 use Rattle.panel.specs.declared.color.Cicp.{Cicp}
 use Rattle.panel.specs.declared.color.Part.{Part}
 use Rattle.panel.specs.declared.color.Part.the-variants.{Absent, Present}
@@ -18,8 +18,8 @@ use Rattle.codes.specs.declared.MaybeOrientation.{MaybeOrientation}
 use Rattle.codes.specs.declared.MaybeOrientation.the-variants as O
 use Rattle.codes.specs.declared.MaybeBool.{MaybeBool}
 use Rattle.codes.specs.declared.MaybeBool.the-variants as B
-use Rattle.codes.specs.declared.MaybePart.{MaybePart}
-use Rattle.codes.specs.declared.MaybePart.the-variants as P
+use Rattle.codes.specs.declared.CodeKind.{CodeKind}
+use Rattle.codes.specs.declared.CodeKind.the-variants as K
 
 -- ---- depth
 
@@ -78,26 +78,26 @@ maybe-bool (B.Some x) = some x
 
 -- ---- whether a byte part is there
 
-abbrev pub part-code : Part → ℕ
-part-code Absent = 0
-part-code Present = 1
-
-unfoldable pub every-part : List Part
-every-part = Absent ∷ Present ∷ []
-
-abbrev pub part-named : ℕ → Option Part
-part-named n = named part-code every-part n
-
-abbrev pub maybe-part : MaybePart → Option Part
-maybe-part P.None = none
-maybe-part (P.Some x) = some x
+abbrev pub part-if : Bool → Part
+part-if false = Absent
+part-if true = Present
 
 -- ---- colour: none where one of its codes stands for nothing
 
 unfoldable pub cicp-named : ℕ → ℕ → ℕ → ℕ → Option Cicp
 cicp-named primaries transfer matrix range =
-    bind (named primaries-code every-primaries primaries) (λ p.
-    bind (named transfer-code every-transfer transfer) (λ t.
-    bind (named matrix-code every-matrix matrix) (λ m.
+    bind (primaries-named primaries) (λ p.
+    bind (transfer-named transfer) (λ t.
+    bind (matrix-named matrix) (λ m.
     bind (yes-no range) (λ full.
     some (record { primaries = p; transfer = t; matrix = m; «full_range» = full })))))
+
+-- ---- any kind: whether a value has this code
+
+abbrev pub is-code : CodeKind → ℕ → Bool
+is-code K.Depth n = has (depth-named n)
+is-code K.Orientation n = has (orientation-named n)
+is-code K.YesNo n = has (yes-no n)
+is-code K.Primaries n = has (primaries-named n)
+is-code K.Transfer n = has (transfer-named n)
+is-code K.Matrix n = has (matrix-named n)

@@ -1,7 +1,11 @@
 // What the codes of a panel's enums stand for. A code that no value has stands for nothing.
 ghost use mathlib.Core.Path.{_≡_};
+ghost use mathlib.Core.Bool.{false};
+ghost use mathlib.Core.Option.{Option·getD as or};
 ghost use Rattle.panel.specs.Of.{cicp-of};
-ghost use Rattle.codes.specs.Codes.{maybe-depth, depth-named, maybe-orientation, orientation-named, maybe-bool, yes-no, maybe-part, part-named, cicp-named};
+ghost use Rattle.panel.specs.Items.{has};
+ghost use Rattle.panel.specs.Agreement.{unspecified};
+ghost use Rattle.codes.specs.Codes.{maybe-depth, depth-named, maybe-orientation, orientation-named, maybe-bool, yes-no, cicp-named, part-if, is-code};
 use panel::color::Cicp;
 use panel::color::MatrixCoefficients;
 use panel::color::MaybeCicp;
@@ -19,8 +23,30 @@ pub enum MaybeDepth {
     None,
 }
 
+impl MaybeDepth {
+    // Whether there is one.
+    pub fn is_some(self) -> bool
+        ensures { λ r. ⌜ r ≡ has (maybe-depth self) ⌝ }
+    {
+        match self {
+            MaybeDepth::Some(_) => true,
+            MaybeDepth::None => false,
+        }
+    }
+
+    // It, or Eight.
+    pub fn or_eight(self) -> BitDepth
+        ensures { λ r. ⌜ r ≡ or (maybe-depth self) BitDepth.Eight ⌝ }
+    {
+        match self {
+            MaybeDepth::Some(v) => v,
+            MaybeDepth::None => BitDepth::Eight,
+        }
+    }
+}
+
 // The depth with this code, or none.
-pub fn depth_named(code: u8) -> MaybeDepth
+pub fn depth_named(code: u16) -> MaybeDepth
     ensures { λ r. ⌜ maybe-depth r ≡ depth-named code ⌝ }
 {
     match code {
@@ -36,8 +62,30 @@ pub enum MaybeOrientation {
     None,
 }
 
+impl MaybeOrientation {
+    // Whether there is one.
+    pub fn is_some(self) -> bool
+        ensures { λ r. ⌜ r ≡ has (maybe-orientation self) ⌝ }
+    {
+        match self {
+            MaybeOrientation::Some(_) => true,
+            MaybeOrientation::None => false,
+        }
+    }
+
+    // It, or Normal.
+    pub fn or_normal(self) -> Orientation
+        ensures { λ r. ⌜ r ≡ or (maybe-orientation self) Orientation.Normal ⌝ }
+    {
+        match self {
+            MaybeOrientation::Some(v) => v,
+            MaybeOrientation::None => Orientation::Normal,
+        }
+    }
+}
+
 // The orientation with this code, or none.
-pub fn orientation_named(code: u8) -> MaybeOrientation
+pub fn orientation_named(code: u16) -> MaybeOrientation
     ensures { λ r. ⌜ maybe-orientation r ≡ orientation-named code ⌝ }
 {
     match code {
@@ -58,8 +106,30 @@ pub enum MaybeBool {
     None,
 }
 
+impl MaybeBool {
+    // Whether there is one.
+    pub fn is_some(self) -> bool
+        ensures { λ r. ⌜ r ≡ has (maybe-bool self) ⌝ }
+    {
+        match self {
+            MaybeBool::Some(_) => true,
+            MaybeBool::None => false,
+        }
+    }
+
+    // It, or no.
+    pub fn or_no(self) -> bool
+        ensures { λ r. ⌜ r ≡ or (maybe-bool self) false ⌝ }
+    {
+        match self {
+            MaybeBool::Some(v) => v,
+            MaybeBool::None => false,
+        }
+    }
+}
+
 // Whether this code says yes, or none where it says neither yes nor no.
-pub fn yes_no(code: u8) -> MaybeBool
+pub fn yes_no(code: u16) -> MaybeBool
     ensures { λ r. ⌜ maybe-bool r ≡ yes-no code ⌝ }
 {
     match code {
@@ -69,24 +139,8 @@ pub fn yes_no(code: u8) -> MaybeBool
     }
 }
 
-pub enum MaybePart {
-    Some(Part),
-    None,
-}
-
-// Whether this code says that a byte part belongs to the panel, or none where it says neither yes nor no.
-pub fn part_named(code: u8) -> MaybePart
-    ensures { λ r. ⌜ maybe-part r ≡ part-named code ⌝ }
-{
-    match code {
-        0 => MaybePart::Some(Part::Absent),
-        1 => MaybePart::Some(Part::Present),
-        _ => MaybePart::None,
-    }
-}
-
 // The colour encoding with these code points and this range, or none where one of the four stands for nothing.
-pub fn cicp_named(primaries: u16, transfer: u16, matrix: u16, full_range: u8) -> MaybeCicp
+pub fn cicp_named(primaries: u16, transfer: u16, matrix: u16, full_range: u16) -> MaybeCicp
     ensures { λ r. ⌜ cicp-of r ≡ cicp-named primaries transfer matrix «full_range» ⌝ }
 {
     let MaybePrimaries::Some(p) = Primaries::from_code(primaries) else {
@@ -107,4 +161,48 @@ pub fn cicp_named(primaries: u16, transfer: u16, matrix: u16, full_range: u8) ->
         matrix: m,
         full_range: full,
     })
+}
+
+// A colour encoding, or one that states nothing but the full range.
+pub fn or_unspecified(cicp: MaybeCicp) -> Cicp
+    ensures { λ r. ⌜ r ≡ or (cicp-of cicp) unspecified ⌝ }
+{
+    match cicp {
+        MaybeCicp::Some(c) => c,
+        MaybeCicp::None => Cicp::unspecified(),
+    }
+}
+
+// A byte part that belongs to the panel, or one that does not.
+pub fn part_if(present: bool) -> Part
+    ensures { λ r. ⌜ r ≡ part-if present ⌝ }
+{
+    if present {
+        return Part::Present;
+    }
+    Part::Absent
+}
+
+// The kinds of codes.
+pub enum CodeKind {
+    Depth,
+    Orientation,
+    YesNo,
+    Primaries,
+    Transfer,
+    Matrix,
+}
+
+// Whether a value of this kind has this code.
+pub fn is_code(kind: CodeKind, code: u16) -> bool
+    ensures { λ r. ⌜ r ≡ is-code kind code ⌝ }
+{
+    match kind {
+        CodeKind::Depth => depth_named(code).is_some(),
+        CodeKind::Orientation => orientation_named(code).is_some(),
+        CodeKind::YesNo => yes_no(code).is_some(),
+        CodeKind::Primaries => Primaries::from_code(code).is_some(),
+        CodeKind::Transfer => TransferFunction::from_code(code).is_some(),
+        CodeKind::Matrix => MatrixCoefficients::from_code(code).is_some(),
+    }
 }

@@ -1,17 +1,18 @@
 -- The enums by their codes: a value has one code, no two values share one, and a code outside the table is no value's.
 -- One computed look-up of each value in the list of all gives all three.
 use mathlib.Core.Path.{_≡_, refl, sym, ap, _∙_}
-use mathlib.Core.Bool.{Bool, true, false, _&&_, cond}
+use mathlib.Core.Bool.{Bool, true, false, _&&_, _||_, cond}
 use mathlib.Core.Option.{Option, none, some}
 use mathlib.Core.List.{List, [], _∷_, map}
 use Prim.Native.Nat.{ℕ, _*_, _^_, _<_}
 use native.Mathlib.Omega.{arith}
 use lib.Dec.{T, eqb, ltb}
 use borrow.Author.Tests.{eqb-true, ltb-true}
-use Rattle.octets.specs.Numbers.{be}
+use Rattle.octets.specs.Numbers.{_‖_, be}
 use Rattle.octets.proofs.Numbers.{be-inj}
-use Rattle.panel.specs.Types.{bits, Names, primaries-code, transfer-code, matrix-code}
-use Rattle.panel.specs.Codes.{named, every-primaries, every-transfer, every-matrix}
+use Rattle.panel.specs.Types.{bits, primaries-code, transfer-code, matrix-code}
+use Rattle.panel.specs.Items.{ids-from}
+use Rattle.panel.specs.Codes.{named, every-primaries, primaries-named, every-transfer, transfer-named, every-matrix, matrix-named}
 use Rattle.panel.specs.declared.fmt.BitDepth.{BitDepth}
 use Rattle.panel.specs.declared.fmt.BitDepth.the-variants.{Eight, Ten, Twelve}
 use Rattle.panel.specs.declared.color.Primaries.{Primaries}
@@ -29,6 +30,19 @@ Misses-after B n (k ∷ l) = Misses-after (B × (n ≡ k → ⊥)) n l
 abbrev pub Misses : ℕ → List ℕ → Type 0
 Misses n l = Misses-after (Unit {0}) n l
 
+abbrev among : ℕ → List ℕ → Bool
+among k [] = false
+among k (j ∷ l) = eqb k j || among k l
+
+-- what was asked and missed is none of those asked
+differs : {B : Type 0} (n : ℕ) (l : List ℕ) → Misses-after B n l → B × ((k : ℕ) → among k l ≡ true → n ≡ k → ⊥)
+differs n [] m = (m, λ k e p. let z : _≡_ {A = ℕ} 0 1 = cc in omega arith)
+differs n (j ∷ l) m = let r = differs n l m in (r .0 .0, λ k e p. go k (eqb k j) refl e p (r .0 .1) (r .1))
+  where
+    go : (k : ℕ) (b : Bool) → eqb k j ≡ b → (b || among k l) ≡ true → n ≡ k → (n ≡ j → ⊥) → ((k : ℕ) → among k l ≡ true → n ≡ k → ⊥) → ⊥
+    go k true e f p g r = g (p ∙ eqb-true k j e)
+    go k false e f p g r = r k f p
+
 some-inj : {A : Type 0} {a b : A} → some a ≡ some b → a ≡ b
 some-inj e = cc
 
@@ -37,13 +51,19 @@ module _ {A : Type 0} (code : A → ℕ) where
   below k [] = true
   below k (a ∷ l) = ltb (code a) k && below k l
 
-  missed : {B : Type 0} (n : ℕ) (l : List A) → Misses-after B n (map code l) → B × (named code l n ≡ none)
-  missed n [] m = (m, refl)
-  missed n (a ∷ l) m = let r = missed n l m in (r .0 .0, go (eqb n (code a)) refl (r .0 .1) (r .1))
+  -- whether each value's code is among those that were asked
+  abbrev asked : List ℕ → List A → Bool
+  asked ks [] = true
+  asked ks (a ∷ l) = among (code a) ks && asked ks l
+
+  missed : (n : ℕ) (ks : List ℕ) → Misses n ks → (l : List A) → T (asked ks l) → named code l n ≡ none
+  missed n ks m [] t = refl
+  missed n ks m (a ∷ l) t = go (eqb n (code a)) (among (code a) ks) refl refl t (missed n ks m l)
     where
-      go : (b : Bool) → eqb n (code a) ≡ b → (n ≡ code a → ⊥) → named code l n ≡ none → cond b (some a) (named code l n) ≡ none
-      go true e f r = absurd (f (eqb-true n (code a) e))
-      go false e f r = r
+      go : (b d : Bool) → eqb n (code a) ≡ b → among (code a) ks ≡ d → T (d && asked ks l) → (T (asked ks l) → named code l n ≡ none) → cond b (some a) (named code l n) ≡ none
+      go true true e f t r = absurd (differs {B = Unit {0}} n ks m .1 (code a) f (eqb-true n (code a) e))
+      go false true e f t r = r t
+      go b false e f t r = absurd t
 
   bounded : (k n : ℕ) (l : List A) (a : A) → T (below k l) → named code l n ≡ some a → code a < k
   bounded k n [] a t e = absurd (let z : _≡_ {A = ℕ} 0 1 = cc in omega arith)
@@ -63,6 +83,10 @@ module _ {A : Type 0} (code : A → ℕ) where
       go true h r e = let w : b ≡ a = cc in ap code (sym w) ∙ sym (eqb-true n (code b) h)
       go false h r e = r e
 
+  -- the code by which a value is looked up is its own
+  pub spells : (l : List A) (n : ℕ) (a : A) → some a ≡ named code l n → n ≡ code a
+  spells l n a e = sym (its-code n l a (sym e))
+
   module _ (every : List A) (found : (a : A) → named code every (code a) ≡ some a) where
     pub code-inj : (x y : A) → code x ≡ code y → x ≡ y
     code-inj x y e = some-inj (sym (found x) ∙ ap (λ (n : ℕ). named code every n) e ∙ found y)
@@ -70,23 +94,17 @@ module _ {A : Type 0} (code : A → ℕ) where
     bytes-inj : (k : ℕ) → T (below (2 ^ (8 * k)) every) → (x y : A) → be k (code x) ≡ be k (code y) → x ≡ y
     bytes-inj k t x y e = code-inj x y (be-inj k (bounded (2 ^ (8 * k)) (code x) every x t (found x)) (bounded (2 ^ (8 * k)) (code y) every y t (found y)) e)
 
-    -- a code that no value has, as a match finds it
-    pub absent : (n : ℕ) → Misses n (map code every) → Names code n none
-    absent n m a e = let z : some a ≡ none = sym (found a) ∙ ap (λ (k : ℕ). named code every k) e ∙ missed {B = Unit {0}} n every m .1 in let w : _≡_ {A = ℕ} 0 1 = cc in omega arith
+    -- a value is what its code names
+    pub finds : (n : ℕ) (a : A) → code a ≡ n → some a ≡ named code every n
+    finds n a e = sym (found a) ∙ ap (λ (k : ℕ). named code every k) e
 
-    -- the value that a code names, or none, is what the look-up gives
-    pub names-named : (n : ℕ) (o : Option A) → Names code n o → o ≡ named code every n
-    names-named n (some a) e = sym (found a) ∙ ap (λ (k : ℕ). named code every k) e
-    names-named n none f = go (named code every n) refl
-      where
-        go : (o : Option A) → named code every n ≡ o → none ≡ o
-        go none e = refl
-        go (some a) e = absurd (f a (its-code n every a e))
+    -- a code that no arm of a match has names nothing
+    pub misses : (ks : List ℕ) → T (asked ks every) → (n : ℕ) → Misses n ks → none ≡ named code every n
+    misses ks t n m = sym (missed n ks m every t)
 
 -- ---- Primaries
 
-pub primaries-found : (a : Primaries) → named primaries-code every-primaries (primaries-code a) ≡ some a
-unfolding every-primaries
+pub primaries-found : (a : Primaries) → primaries-named (primaries-code a) ≡ some a
 primaries-found P.Reserved = refl
 primaries-found P.Bt709 = refl
 primaries-found P.Unspecified = refl
@@ -102,17 +120,17 @@ primaries-found P.Smpte432 = refl
 primaries-found P.Ebu3213 = refl
 
 pub primaries-inj : (x y : Primaries) → be 2 (primaries-code x) ≡ be 2 (primaries-code y) → x ≡ y
-unfolding every-primaries
 primaries-inj = bytes-inj primaries-code every-primaries primaries-found 2 tt
 
-pub primaries-absent : (n : ℕ) → Misses n (0 ∷ 1 ∷ 2 ∷ 4 ∷ 5 ∷ 6 ∷ 7 ∷ 8 ∷ 9 ∷ 10 ∷ 11 ∷ 12 ∷ 22 ∷ []) → (a : Primaries) → primaries-code a ≡ n → ⊥
-unfolding every-primaries
-primaries-absent = absent primaries-code every-primaries primaries-found
+pub primaries-finds : (n : ℕ) (a : Primaries) → primaries-code a ≡ n → some a ≡ primaries-named n
+primaries-finds = finds primaries-code every-primaries primaries-found
+
+pub primaries-misses : (n : ℕ) → Misses n (ids-from 0 13 ‖ 22 ∷ []) → none ≡ primaries-named n
+primaries-misses = misses primaries-code every-primaries primaries-found (ids-from 0 13 ‖ 22 ∷ []) tt
 
 -- ---- TransferFunction
 
-pub transfer-found : (a : TransferFunction) → named transfer-code every-transfer (transfer-code a) ≡ some a
-unfolding every-transfer
+pub transfer-found : (a : TransferFunction) → transfer-named (transfer-code a) ≡ some a
 transfer-found T.Reserved = refl
 transfer-found T.Bt709 = refl
 transfer-found T.Unspecified = refl
@@ -133,17 +151,17 @@ transfer-found T.Smpte428 = refl
 transfer-found T.Hlg = refl
 
 pub transfer-inj : (x y : TransferFunction) → be 2 (transfer-code x) ≡ be 2 (transfer-code y) → x ≡ y
-unfolding every-transfer
 transfer-inj = bytes-inj transfer-code every-transfer transfer-found 2 tt
 
-pub transfer-absent : (n : ℕ) → Misses n (0 ∷ 1 ∷ 2 ∷ 4 ∷ 5 ∷ 6 ∷ 7 ∷ 8 ∷ 9 ∷ 10 ∷ 11 ∷ 12 ∷ 13 ∷ 14 ∷ 15 ∷ 16 ∷ 17 ∷ 18 ∷ []) → (a : TransferFunction) → transfer-code a ≡ n → ⊥
-unfolding every-transfer
-transfer-absent = absent transfer-code every-transfer transfer-found
+pub transfer-finds : (n : ℕ) (a : TransferFunction) → transfer-code a ≡ n → some a ≡ transfer-named n
+transfer-finds = finds transfer-code every-transfer transfer-found
+
+pub transfer-misses : (n : ℕ) → Misses n (ids-from 0 19) → none ≡ transfer-named n
+transfer-misses = misses transfer-code every-transfer transfer-found (ids-from 0 19) tt
 
 -- ---- MatrixCoefficients
 
-pub matrix-found : (a : MatrixCoefficients) → named matrix-code every-matrix (matrix-code a) ≡ some a
-unfolding every-matrix
+pub matrix-found : (a : MatrixCoefficients) → matrix-named (matrix-code a) ≡ some a
 matrix-found M.Identity = refl
 matrix-found M.Bt709 = refl
 matrix-found M.Unspecified = refl
@@ -164,12 +182,13 @@ matrix-found M.YCgCoRe = refl
 matrix-found M.YCgCoRo = refl
 
 pub matrix-inj : (x y : MatrixCoefficients) → be 2 (matrix-code x) ≡ be 2 (matrix-code y) → x ≡ y
-unfolding every-matrix
 matrix-inj = bytes-inj matrix-code every-matrix matrix-found 2 tt
 
-pub matrix-absent : (n : ℕ) → Misses n (0 ∷ 1 ∷ 2 ∷ 3 ∷ 4 ∷ 5 ∷ 6 ∷ 7 ∷ 8 ∷ 9 ∷ 10 ∷ 11 ∷ 12 ∷ 13 ∷ 14 ∷ 15 ∷ 16 ∷ 17 ∷ []) → (a : MatrixCoefficients) → matrix-code a ≡ n → ⊥
-unfolding every-matrix
-matrix-absent = absent matrix-code every-matrix matrix-found
+pub matrix-finds : (n : ℕ) (a : MatrixCoefficients) → matrix-code a ≡ n → some a ≡ matrix-named n
+matrix-finds = finds matrix-code every-matrix matrix-found
+
+pub matrix-misses : (n : ℕ) → Misses n (ids-from 0 18) → none ≡ matrix-named n
+matrix-misses = misses matrix-code every-matrix matrix-found (ids-from 0 18) tt
 
 -- ---- BitDepth
 

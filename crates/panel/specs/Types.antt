@@ -27,11 +27,6 @@ bits Eight = 8
 bits Ten = 10
 bits Twelve = 12
 
--- the value whose code is n, or none where no value has it
-abbrev pub Names : {A : Type 0} → (A → ℕ) → ℕ → Option A → Type 0
-Names code n (some a) = code a ≡ n
-Names code n none = (a : _) → code a ≡ n → ⊥
-
 -- ISO/IEC 23091-2: colour primaries
 abbrev pub primaries-code : Primaries → ℕ
 primaries-code P.Reserved = 0

@@ -1,6 +1,9 @@
 // Colour: the code points of ISO/IEC 23091-2 (CICP), and how a picture states its colour.
 ghost use mathlib.Core.Path.{_≡_};
-ghost use Rattle.panel.specs.Types.{Names, primaries-code, maybe-primaries, transfer-code, maybe-transfer, matrix-code, maybe-matrix};
+ghost use mathlib.Core.Option.{some};
+ghost use Rattle.panel.specs.Types.{maybe-primaries, maybe-transfer, maybe-matrix};
+ghost use Rattle.panel.specs.Codes.{primaries-named, transfer-named, matrix-named};
+ghost use Rattle.panel.specs.Items.{has};
 ghost use Rattle.panel.specs.Agreement.{unspecified};
 
 // Colour primaries (ISO/IEC 23091-2, table 2).
@@ -25,10 +28,22 @@ pub enum MaybePrimaries {
     None,
 }
 
+impl MaybePrimaries {
+    // Whether there is one.
+    pub fn is_some(self) -> bool
+        ensures { λ r. ⌜ r ≡ has (maybe-primaries self) ⌝ }
+    {
+        match self {
+            MaybePrimaries::Some(_) => true,
+            MaybePrimaries::None => false,
+        }
+    }
+}
+
 impl Primaries {
     // The code point.
     pub fn code(self) -> u16
-        ensures { λ r. ⌜ r ≡ primaries-code self ⌝ }
+        ensures { λ r. ⌜ some self ≡ primaries-named r ⌝ }
     {
         match self {
             Primaries::Reserved => 0,
@@ -49,12 +64,13 @@ impl Primaries {
 
     // The variant with this code point, or none.
     pub fn from_code(code: u16) -> MaybePrimaries
-        ensures { λ r. ⌜ Names primaries-code code (maybe-primaries r) ⌝ }
+        ensures { λ r. ⌜ maybe-primaries r ≡ primaries-named code ⌝ }
     {
         match code {
             0 => MaybePrimaries::Some(Primaries::Reserved),
             1 => MaybePrimaries::Some(Primaries::Bt709),
             2 => MaybePrimaries::Some(Primaries::Unspecified),
+            3 => MaybePrimaries::None,
             4 => MaybePrimaries::Some(Primaries::Bt470M),
             5 => MaybePrimaries::Some(Primaries::Bt470Bg),
             6 => MaybePrimaries::Some(Primaries::Bt601),
@@ -97,10 +113,22 @@ pub enum MaybeTransferFunction {
     None,
 }
 
+impl MaybeTransferFunction {
+    // Whether there is one.
+    pub fn is_some(self) -> bool
+        ensures { λ r. ⌜ r ≡ has (maybe-transfer self) ⌝ }
+    {
+        match self {
+            MaybeTransferFunction::Some(_) => true,
+            MaybeTransferFunction::None => false,
+        }
+    }
+}
+
 impl TransferFunction {
     // The code point.
     pub fn code(self) -> u16
-        ensures { λ r. ⌜ r ≡ transfer-code self ⌝ }
+        ensures { λ r. ⌜ some self ≡ transfer-named r ⌝ }
     {
         match self {
             TransferFunction::Reserved => 0,
@@ -126,12 +154,13 @@ impl TransferFunction {
 
     // The variant with this code point, or none.
     pub fn from_code(code: u16) -> MaybeTransferFunction
-        ensures { λ r. ⌜ Names transfer-code code (maybe-transfer r) ⌝ }
+        ensures { λ r. ⌜ maybe-transfer r ≡ transfer-named code ⌝ }
     {
         match code {
             0 => MaybeTransferFunction::Some(TransferFunction::Reserved),
             1 => MaybeTransferFunction::Some(TransferFunction::Bt709),
             2 => MaybeTransferFunction::Some(TransferFunction::Unspecified),
+            3 => MaybeTransferFunction::None,
             4 => MaybeTransferFunction::Some(TransferFunction::Bt470M),
             5 => MaybeTransferFunction::Some(TransferFunction::Bt470Bg),
             6 => MaybeTransferFunction::Some(TransferFunction::Bt601),
@@ -179,10 +208,22 @@ pub enum MaybeMatrixCoefficients {
     None,
 }
 
+impl MaybeMatrixCoefficients {
+    // Whether there is one.
+    pub fn is_some(self) -> bool
+        ensures { λ r. ⌜ r ≡ has (maybe-matrix self) ⌝ }
+    {
+        match self {
+            MaybeMatrixCoefficients::Some(_) => true,
+            MaybeMatrixCoefficients::None => false,
+        }
+    }
+}
+
 impl MatrixCoefficients {
     // The code point.
     pub fn code(self) -> u16
-        ensures { λ r. ⌜ r ≡ matrix-code self ⌝ }
+        ensures { λ r. ⌜ some self ≡ matrix-named r ⌝ }
     {
         match self {
             MatrixCoefficients::Identity => 0,
@@ -208,7 +249,7 @@ impl MatrixCoefficients {
 
     // The variant with this code point, or none.
     pub fn from_code(code: u16) -> MaybeMatrixCoefficients
-        ensures { λ r. ⌜ Names matrix-code code (maybe-matrix r) ⌝ }
+        ensures { λ r. ⌜ maybe-matrix r ≡ matrix-named code ⌝ }
     {
         match code {
             0 => MaybeMatrixCoefficients::Some(MatrixCoefficients::Identity),

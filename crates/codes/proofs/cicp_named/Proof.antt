@@ -4,7 +4,6 @@ use mathlib.Core.Path.{refl}
 use Rattle.panel.specs.Types.{maybe-primaries, maybe-transfer, maybe-matrix}
 use Rattle.codes.specs.Codes.{maybe-bool, cicp-named}
 use Rattle.codes.proofs.Chain.{goes-on, ends, so}
-use Rattle.codes.proofs.Named.{primaries-names, transfer-names, matrix-names}
 use Rattle.codes.proofs.cicp_named.Statement.{statement}
 use Rattle.codes.proofs.cicp_named.Tie as tie
 
@@ -12,7 +11,7 @@ returns : tie.Need-returns
 unfolding cicp-named
 returns c =
     let c1 = c .before .before in
-    ends _ (so maybe-primaries (primaries-names _ _ (c1 .from-code .ensures)) (c .enum-told .given .1))
+    ends _ (so maybe-primaries (c1 .from-code .ensures) (c .enum-told .given .1))
 
 returns-2 : tie.Need-returns-2
 unfolding cicp-named
@@ -20,8 +19,8 @@ returns-2 c =
     let c2 = c .before .before in
     let p = c2 .before .before in
     let c1 = p .before .before in
-    goes-on _ (so maybe-primaries (primaries-names _ _ (c1 .from-code .ensures)) (p .p .given .1))
-    (ends _ (so maybe-transfer (transfer-names _ _ (c2 .from-code2 .ensures)) (c .enum-told2 .given .1)))
+    goes-on _ (so maybe-primaries (c1 .from-code .ensures) (p .p .given .1))
+    (ends _ (so maybe-transfer (c2 .from-code2 .ensures) (c .enum-told2 .given .1)))
 
 returns-3 : tie.Need-returns-3
 unfolding cicp-named
@@ -31,9 +30,9 @@ returns-3 c =
     let c2 = t .before .before in
     let p = c2 .before .before in
     let c1 = p .before .before in
-    goes-on _ (so maybe-primaries (primaries-names _ _ (c1 .from-code .ensures)) (p .p .given .1))
-    (goes-on _ (so maybe-transfer (transfer-names _ _ (c2 .from-code2 .ensures)) (t .t .given .1))
-    (ends _ (so maybe-matrix (matrix-names _ _ (c3 .from-code3 .ensures)) (c .enum-told3 .given .1))))
+    goes-on _ (so maybe-primaries (c1 .from-code .ensures) (p .p .given .1))
+    (goes-on _ (so maybe-transfer (c2 .from-code2 .ensures) (t .t .given .1))
+    (ends _ (so maybe-matrix (c3 .from-code3 .ensures) (c .enum-told3 .given .1))))
 
 returns-4 : tie.Need-returns-4
 unfolding cicp-named
@@ -45,9 +44,9 @@ returns-4 c =
     let c2 = t .before .before in
     let p = c2 .before .before in
     let c1 = p .before .before in
-    goes-on _ (so maybe-primaries (primaries-names _ _ (c1 .from-code .ensures)) (p .p .given .1))
-    (goes-on _ (so maybe-transfer (transfer-names _ _ (c2 .from-code2 .ensures)) (t .t .given .1))
-    (goes-on _ (so maybe-matrix (matrix-names _ _ (c3 .from-code3 .ensures)) (m .m .given .1))
+    goes-on _ (so maybe-primaries (c1 .from-code .ensures) (p .p .given .1))
+    (goes-on _ (so maybe-transfer (c2 .from-code2 .ensures) (t .t .given .1))
+    (goes-on _ (so maybe-matrix (c3 .from-code3 .ensures) (m .m .given .1))
     (ends _ (so maybe-bool (c4 .yes-no .ensures) (c .enum-told4 .given .1)))))
 
 returns-5 : tie.Need-returns-5
@@ -61,9 +60,9 @@ returns-5 c =
     let c2 = t .before .before in
     let p = c2 .before .before in
     let c1 = p .before .before in
-    goes-on _ (so maybe-primaries (primaries-names _ _ (c1 .from-code .ensures)) (p .p .given .1))
-    (goes-on _ (so maybe-transfer (transfer-names _ _ (c2 .from-code2 .ensures)) (t .t .given .1))
-    (goes-on _ (so maybe-matrix (matrix-names _ _ (c3 .from-code3 .ensures)) (m .m .given .1))
+    goes-on _ (so maybe-primaries (c1 .from-code .ensures) (p .p .given .1))
+    (goes-on _ (so maybe-transfer (c2 .from-code2 .ensures) (t .t .given .1))
+    (goes-on _ (so maybe-matrix (c3 .from-code3 .ensures) (m .m .given .1))
     (goes-on _ (so maybe-bool (c4 .yes-no .ensures) (f .full .given .1))
     refl)))
 
