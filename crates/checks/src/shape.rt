@@ -33,26 +33,27 @@ pub fn has_cicp(cicp: MaybeCicp) -> bool
     }
 }
 
-// Whether there is a gain map.
-pub fn has_gain(gain: MaybeGainMap) -> bool
-    ensures { λ r. ⌜ ((l : Lent) → r ≡ has (gain-of gain l)) ⌝ }
-{
-    match gain {
-        MaybeGainMap::Some(_) => true,
-        MaybeGainMap::None => false,
-    }
+// Whether there is a gain map, and whether it has a tone map.
+pub struct GainParts {
+    pub gain: bool,
+    pub tone: bool,
 }
 
-// Whether there is a tone map.
-pub fn has_tone(gain: MaybeGainMap) -> bool
-    ensures { λ r. ⌜ ((l : Lent) → r ≡ has (tone-of (gain-of gain l))) ⌝ }
+fn gain_parts(gain: MaybeGainMap) -> GainParts
+    ensures { λ r. ⌜ ((l : Lent) → (r .gain ≡ has (gain-of gain l)) × (r .tone ≡ has (tone-of (gain-of gain l)))) ⌝ }
 {
     match gain {
         MaybeGainMap::Some(g) => {
             let tmap = g.tmap;
-            is_present(tmap)
+            GainParts {
+                gain: true,
+                tone: is_present(tmap),
+            }
         }
-        MaybeGainMap::None => false,
+        MaybeGainMap::None => GainParts {
+            gain: false,
+            tone: false,
+        },
     }
 }
 
@@ -64,11 +65,12 @@ pub fn shape_of(panel: Panel, tiles: u32) -> Shape
     let metadata = panel.metadata;
     let exif = metadata.exif;
     let gain = panel.gain_map;
+    let parts = gain_parts(gain);
     Shape {
         tiles,
         exif: is_present(exif),
-        gain: has_gain(gain),
-        tone: has_tone(gain),
+        gain: parts.gain,
+        tone: parts.tone,
     }
 }
 
