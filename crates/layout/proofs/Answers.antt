@@ -9,19 +9,26 @@ use lib.Dec.{ltb, eqb}
 use lib.ListN.{length}
 use borrow.Author.Tests.{lt-ltb, le-ltb, le-leb, lt-leb, ltb-false, eqb-true, not-false}
 use Rattle.panel.specs.Panel.{Panel}
-use Rattle.panel.specs.Of.{Lent, panel-of}
+use Rattle.panel.specs.Of.{Lent, gain-of, panel-of}
 use Rattle.panel.specs.Items.{ordinary, shape}
-use Rattle.panel.specs.File.{file}
+use Rattle.panel.specs.File.{rext, gain-rext, file}
 use Rattle.panel.specs.Refusal.{bad-side, bad-grid, differ, bad-counts, bad-sum, last-id, checks, refusal}
 use Rattle.panel.specs.Answer.{made, refused, outcome, length-answer}
 use Rattle.panel.specs.declared.Panel.{Panel as Numbers}
 use Rattle.panel.specs.declared.Shape.{Shape}
+use Rattle.panel.proofs.Accepted.{accepted as is-accepted}
 use Rattle.length.specs.Parts.{Even}
-use Rattle.length.specs.Size.{size}
-use Rattle.length.proofs.File.{length-file}
+use Rattle.length.specs.Size.{descriptor-size, size}
+use Rattle.length.proofs.File.{length-file, length-descriptor, even-accepted}
 use Rattle.octets.proofs.Tests.{or-false}
 use Rattle.checks.proofs.Tests.{same, Decides, pass, stop}
 use Rattle.sizes.specs.Capped.{Capped}
+use Rattle.sizes.specs.Sized.{Sized}
+use Rattle.sizes.specs.declared.Sizes.{Sizes}
+use Rattle.offsets.specs.Laid.{Given, Within}
+use Rattle.offsets.proofs.Exact.{within}
+use Rattle.layout.specs.Plan.{Made-from}
+use Rattle.layout.specs.declared.FilePlan.{FilePlan}
 
 -- ---- the checks decide
 
@@ -64,6 +71,9 @@ module _ (n : Numbers) (l : Lent) where
     pub counts : Counts false
     pub sums : Sums false
 
+  pub through : Sides false → Counts false → Sums false → Passed
+  through a b c = record { sides = a; counts = b; sums = c }
+
   pub stop-1 : Sides true → refused 1 ≡ length-answer ordinary (panel-of n l)
   unfolding panel-of
   stop-1 a = answered _ (stop (all (panel-of n l)) a)
@@ -75,6 +85,18 @@ module _ (n : Numbers) (l : Lent) where
   pub stop-3 : Sides false → Counts false → Sums true → refused 3 ≡ length-answer ordinary (panel-of n l)
   unfolding panel-of
   stop-3 a b c = answered _ (stop (pass (pass (all (panel-of n l)) a) b) c)
+
+  -- the sizes of an accepted panel's boxes make a file
+  pub room : (z : Sizes) → refusal ordinary (panel-of n l) ≡ 0 → Sized (panel-of n l) z → Within z (length (l .tiles .bytes)) (length (l .alpha .bytes))
+  unfolding panel-of
+  room z e y = within _ z (is-accepted ordinary _ e) y
+
+  -- and with them all that its layout is made from
+  pub given : {z : Sizes} {s : Shape} {k : ℕ} {color gain : Bool} → refusal ordinary (panel-of n l) ≡ 0 → Sized (panel-of n l) z → s ≡ shape (panel-of n l) → k ≡ descriptor-size (n .dims)
+      → color ≡ rext (l .tiles .config) → gain ≡ gain-rext (gain-of (n .«gain_map») l) → Given (panel-of n l) z s k (length (l .tiles .bytes)) (length (l .alpha .bytes)) color gain
+  unfolding panel-of
+  given e y i k c g =
+      record { even = even-accepted ordinary _ (is-accepted ordinary _ e); sized = y; items = i; grid = k ∙ sym (length-descriptor (n .dims)); colors = refl; alphas = refl; color-rext = c; gain-rext = g }
 
   module _ (h : Passed) where
     -- both pictures have as many tiles, whose lengths sum to what is lent
@@ -107,8 +129,12 @@ module _ (n : Numbers) (l : Lent) where
             let p = panel-of n l in
             answered _ (stop (behind-4 d) (lt-ltb 4294967295 (length (file ordinary p)) (omega (arith, length-file ordinary p even, c .below))))
 
-        pub done : r ≤ 4294967295 → made r ≡ length-answer ordinary (panel-of n l)
-        done f =
+        pub accepted : r ≤ 4294967295 → (refusal ordinary (panel-of n l) ≡ 0) × (r ≡ length (file ordinary (panel-of n l)))
+        accepted f =
             let p = panel-of n l in
             let k : r ≡ length (file ordinary p) = c .whole (omega arith) ∙ sym (length-file ordinary p even) in
-            ap made k ∙ answered p (pass (behind-4 d) (le-ltb 4294967295 (length (file ordinary p)) (omega arith)) .by)
+            (pass (behind-4 d) (le-ltb 4294967295 (length (file ordinary p)) (omega arith)) .by, k)
+
+-- what the length call answers where the plan is made
+pub made-length : (p : Panel) (f : FilePlan) → Made-from p f → made (f .length) ≡ length-answer ordinary p
+made-length p f m = ap made (m .long) ∙ answered p (m .accepted)

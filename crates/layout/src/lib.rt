@@ -1,12 +1,11 @@
-// The length call, and the layout of an accepted panel's file: computed from lengths alone, before anything is written.
+// The plan of a panel's file, computed from lengths alone before anything is written; and the length call.
 ghost use mathlib.Core.Path.{_≡_};
 ghost use Rattle.panel.specs.Of.{panel-of};
 ghost use Rattle.panel.specs.Items.{ordinary};
-ghost use Rattle.panel.specs.Refusal.{refusal};
 ghost use Rattle.panel.specs.Widths.{Fits};
 ghost use Rattle.panel.specs.Answer.{says, length-answer};
 ghost use Rattle.layout.specs.Lent.{lent};
-ghost use Rattle.offsets.specs.Laid.{Laid};
+ghost use Rattle.layout.specs.Plan.{Planned};
 use boxes::ftyp::hvcc_uses_rext;
 use checks::bad_counts;
 use checks::bad_grid;
@@ -21,12 +20,103 @@ use offsets::placed;
 use panel::Answer;
 use panel::Panel;
 use panel::Refusal;
+use places::Places;
+use places::places_of;
 use sizes::gain_uses_rext;
 use sizes::lengths::gain_lengths;
 use sizes::lengths::lengths_of;
 use sizes::sizes_of;
 
-// The length of a panel's file, or why it is refused: the checks 1 to 5 in their order, each with its own answer.
+// What a file is made from: its length, where each of its boxes lies, and the places of its properties.
+pub struct FilePlan {
+    pub length: u64,
+    pub layout: Layout,
+    pub places: Places,
+}
+
+// Why a panel is refused, or what its file is made from.
+pub enum Plan {
+    Refused(Refusal),
+    Made(FilePlan),
+}
+
+// The plan of a panel's file: the checks 1 to 5 in their order, each with its own answer, and all numbers of the file.
+// Above 40 lines and 8 calls by its parameters and numbers, one to a line: each byte part is a slice of its own.
+pub fn plan_of(
+    panel: Panel,
+    color_hvcc: &[u8],
+    alpha_hvcc: &[u8],
+    color_lengths: &[u32],
+    alpha_lengths: &[u32],
+    color_samples: &[u8],
+    alpha_samples: &[u8],
+    icc: &[u8],
+    exif: &[u8],
+    gain_hvcc: &[u8],
+    gain_sample: &[u8],
+    gain_xmp: &[u8],
+    gain_tmap: &[u8],
+    alternate_icc: &[u8],
+) -> Plan
+    ensures { λ r. ⌜ Planned (panel-of panel (lent (now («color_hvcc» .entry)) (now («alpha_hvcc» .entry)) (now («color_lengths» .entry)) (now («alpha_lengths» .entry)) (now («color_samples» .entry)) (now («alpha_samples» .entry)) (now (icc .entry)) (now (exif .entry)) (now («gain_hvcc» .entry)) (now («gain_sample» .entry)) (now («gain_xmp» .entry)) (now («gain_tmap» .entry)) (now («alternate_icc» .entry)))) r ⌝ }
+    ensures { λ r. ⌜ Fits (panel-of panel (lent (now («color_hvcc» .entry)) (now («alpha_hvcc» .entry)) (now («color_lengths» .entry)) (now («alpha_lengths» .entry)) (now («color_samples» .entry)) (now («alpha_samples» .entry)) (now (icc .entry)) (now (exif .entry)) (now («gain_hvcc» .entry)) (now («gain_sample» .entry)) (now («gain_xmp» .entry)) (now («gain_tmap» .entry)) (now («alternate_icc» .entry)))) ⌝ }
+{
+    let fits = numbers_fit(panel);
+    let dims = panel.dims;
+    let gain = panel.gain_map;
+    if bad_grid(dims.rows, dims.cols) {
+        return Plan::Refused(Refusal::GridSide);
+    }
+    if bad_counts(
+        dims.rows,
+        dims.cols,
+        color_lengths.len() as u64,
+        alpha_lengths.len() as u64,
+    ) {
+        return Plan::Refused(Refusal::TileCount);
+    }
+    if bad_sums(color_lengths, alpha_lengths, color_samples, alpha_samples) {
+        return Plan::Refused(Refusal::SampleLengths);
+    }
+    let shape = shape_of(panel, color_lengths.len() as u32);
+    if 65535 < last_id(shape) {
+        return Plan::Refused(Refusal::ItemIds);
+    }
+    let gains = gain_lengths(gain_hvcc, gain_sample, gain_xmp, gain_tmap, alternate_icc);
+    let lengths = lengths_of(
+        color_hvcc,
+        alpha_hvcc,
+        color_samples,
+        alpha_samples,
+        icc,
+        exif,
+        gains,
+    );
+    let color_rext = hvcc_uses_rext(color_hvcc);
+    let gain_rext = gain_uses_rext(gain, gain_hvcc);
+    let places = places_of(panel, shape);
+    let sizes = sizes_of(panel, shape, places, lengths, color_rext, gain_rext);
+    let length = file_size(sizes);
+    if 4294967295 < length {
+        return Plan::Refused(Refusal::FileLength);
+    }
+    let layout = placed(
+        sizes,
+        shape,
+        descriptor_length(dims),
+        color_samples.len(),
+        alpha_samples.len(),
+        color_rext,
+        gain_rext,
+    );
+    Plan::Made(FilePlan {
+        length,
+        layout,
+        places,
+    })
+}
+
+// The length of a panel's file, or why it is refused.
 // Above 40 lines by its parameters, one to a line: each byte part is a slice of its own.
 pub fn file_length(
     panel: Panel,
@@ -47,90 +137,24 @@ pub fn file_length(
     ensures { λ r. ⌜ says r ≡ length-answer ordinary (panel-of panel (lent (now («color_hvcc» .entry)) (now («alpha_hvcc» .entry)) (now («color_lengths» .entry)) (now («alpha_lengths» .entry)) (now («color_samples» .entry)) (now («alpha_samples» .entry)) (now (icc .entry)) (now (exif .entry)) (now («gain_hvcc» .entry)) (now («gain_sample» .entry)) (now («gain_xmp» .entry)) (now («gain_tmap» .entry)) (now («alternate_icc» .entry)))) ⌝ }
     ensures { λ r. ⌜ Fits (panel-of panel (lent (now («color_hvcc» .entry)) (now («alpha_hvcc» .entry)) (now («color_lengths» .entry)) (now («alpha_lengths» .entry)) (now («color_samples» .entry)) (now («alpha_samples» .entry)) (now (icc .entry)) (now (exif .entry)) (now («gain_hvcc» .entry)) (now («gain_sample» .entry)) (now («gain_xmp» .entry)) (now («gain_tmap» .entry)) (now («alternate_icc» .entry)))) ⌝ }
 {
-    let fits = numbers_fit(panel);
-    let dims = panel.dims;
-    let gain = panel.gain_map;
-    if bad_grid(dims.rows, dims.cols) {
-        return Answer::Refused(Refusal::GridSide);
-    }
-    if bad_counts(
-        dims.rows,
-        dims.cols,
-        color_lengths.len() as u64,
-        alpha_lengths.len() as u64,
-    ) {
-        return Answer::Refused(Refusal::TileCount);
-    }
-    if bad_sums(color_lengths, alpha_lengths, color_samples, alpha_samples) {
-        return Answer::Refused(Refusal::SampleLengths);
-    }
-    let shape = shape_of(panel, color_lengths.len() as u32);
-    if 65535 < last_id(shape) {
-        return Answer::Refused(Refusal::ItemIds);
-    }
-    let gains = gain_lengths(gain_hvcc, gain_sample, gain_xmp, gain_tmap, alternate_icc);
-    let lengths = lengths_of(
+    let plan = plan_of(
+        panel,
         color_hvcc,
         alpha_hvcc,
+        color_lengths,
+        alpha_lengths,
         color_samples,
         alpha_samples,
         icc,
         exif,
-        gains,
+        gain_hvcc,
+        gain_sample,
+        gain_xmp,
+        gain_tmap,
+        alternate_icc,
     );
-    let color_rext = hvcc_uses_rext(color_hvcc);
-    let gain_rext = gain_uses_rext(gain, gain_hvcc);
-    let size = file_size(sizes_of(panel, shape, lengths, color_rext, gain_rext));
-    if 4294967295 < size {
-        return Answer::Refused(Refusal::FileLength);
+    match plan {
+        Plan::Refused(r) => Answer::Refused(r),
+        Plan::Made(file) => Answer::Length(file.length),
     }
-    Answer::Length(size)
-}
-
-// The layout of an accepted panel's file.
-// Above 40 lines by its parameters, one to a line: each byte part is a slice of its own.
-pub fn lay_out(
-    panel: Panel,
-    color_hvcc: &[u8],
-    alpha_hvcc: &[u8],
-    color_lengths: &[u32],
-    alpha_lengths: &[u32],
-    color_samples: &[u8],
-    alpha_samples: &[u8],
-    icc: &[u8],
-    exif: &[u8],
-    gain_hvcc: &[u8],
-    gain_sample: &[u8],
-    gain_xmp: &[u8],
-    gain_tmap: &[u8],
-    alternate_icc: &[u8],
-) -> Layout
-    requires { ⌜ refusal ordinary (panel-of panel (lent (now «color_hvcc») (now «alpha_hvcc») (now «color_lengths») (now «alpha_lengths») (now «color_samples») (now «alpha_samples») (now icc) (now exif) (now «gain_hvcc») (now «gain_sample») (now «gain_xmp») (now «gain_tmap») (now «alternate_icc»))) ≡ 0 ⌝ }
-    ensures { λ r. ⌜ Laid (panel-of panel (lent (now («color_hvcc» .entry)) (now («alpha_hvcc» .entry)) (now («color_lengths» .entry)) (now («alpha_lengths» .entry)) (now («color_samples» .entry)) (now («alpha_samples» .entry)) (now (icc .entry)) (now (exif .entry)) (now («gain_hvcc» .entry)) (now («gain_sample» .entry)) (now («gain_xmp» .entry)) (now («gain_tmap» .entry)) (now («alternate_icc» .entry)))) r ⌝ }
-{
-    let dims = panel.dims;
-    let gain = panel.gain_map;
-    let shape = shape_of(panel, color_lengths.len() as u32);
-    let gains = gain_lengths(gain_hvcc, gain_sample, gain_xmp, gain_tmap, alternate_icc);
-    let lengths = lengths_of(
-        color_hvcc,
-        alpha_hvcc,
-        color_samples,
-        alpha_samples,
-        icc,
-        exif,
-        gains,
-    );
-    let color_rext = hvcc_uses_rext(color_hvcc);
-    let gain_rext = gain_uses_rext(gain, gain_hvcc);
-    let sizes = sizes_of(panel, shape, lengths, color_rext, gain_rext);
-    placed(
-        sizes,
-        shape,
-        descriptor_length(dims),
-        color_samples.len(),
-        alpha_samples.len(),
-        color_rext,
-        gain_rext,
-    )
 }

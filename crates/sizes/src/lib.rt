@@ -1,4 +1,4 @@
-// The whole size of each box of a file, from lengths alone: here those of the other boxes, in properties those of ipco and ipma.
+// The whole size of each box of a file, from lengths alone: here those of the other boxes, in properties that of ipco.
 
 pub mod lengths;
 pub mod properties;
@@ -9,13 +9,13 @@ ghost use Rattle.panel.specs.Of.{Lent, panel-of, gain-of};
 ghost use Rattle.panel.specs.Items.{ordinary, shape};
 ghost use Rattle.panel.specs.File.{rext, gain-rext};
 ghost use Rattle.length.specs.Size.{ftyp-size, iloc-size, iinf-size, iref-size, idat-size, gain-data-size, mdat-size, size};
+ghost use Rattle.places.specs.Roles.{Placed, Fit};
 ghost use Rattle.sizes.specs.Capped.{Capped, Gain-measured, Measured};
 ghost use Rattle.sizes.specs.Sized.{Sized, Small};
 use crate::lengths::GainLengths;
 use crate::lengths::Lengths;
 use crate::properties::data_size;
 use crate::properties::ipco_size;
-use crate::properties::ipma_size;
 use crate::properties::part_size;
 use boxes::ftyp::adds_heix;
 use boxes::ftyp::hvcc_uses_rext;
@@ -26,6 +26,8 @@ use panel::GridDims;
 use panel::Panel;
 use panel::Shape;
 use panel::gain_map::MaybeGainMap;
+use places::Places;
+use places::associations::ipma_bytes;
 
 // The whole size of each box. ipco, iprp, meta and mdat are too large for a file where a part is.
 pub struct Sizes {
@@ -119,18 +121,19 @@ pub fn mdat_size(panel: Panel, y: Lengths) -> u64
         + gain_data_size(gain, g)
 }
 
-// The size of every box. color and gain: the record is of the range extensions' profile.
+// The size of every box, that of ipma from the places of the properties. color and gain: the record is of the range extensions' profile.
 // Nine calls: one for each box whose size is worked out, and the group of a tone map.
-pub fn sizes_of(panel: Panel, s: Shape, y: Lengths, color: bool, gain: bool) -> Sizes
+pub fn sizes_of(panel: Panel, s: Shape, z: Places, y: Lengths, color: bool, gain: bool) -> Sizes
     requires { ⌜ s .tiles ≤ 65536 ⌝ }
-    ensures { λ r. ⌜ ((l : Lent) → Measured l y → s ≡ shape (panel-of panel l) → color ≡ rext (l .tiles .config) → gain ≡ gain-rext (gain-of (panel .«gain_map») l) → Sized (panel-of panel l) r) ⌝ }
+    requires { ⌜ Fit z ⌝ }
+    ensures { λ r. ⌜ ((l : Lent) → Measured l y → s ≡ shape (panel-of panel l) → Placed (panel-of panel l) z → color ≡ rext (l .tiles .config) → gain ≡ gain-rext (gain-of (panel .«gain_map») l) → Sized (panel-of panel l) r) ⌝ }
     ensures { λ r. ⌜ Small r ⌝ }
 {
     let dims = panel.dims;
     let iloc = iloc_size(s);
     let iinf = iinf_size(s);
     let iref = iref_size(s);
-    let ipma = ipma_size(panel, s);
+    let ipma = ipma_bytes(s, z);
     let idat = idat_size(dims);
     let ipco = ipco_size(panel, y);
     let iprp = 8 + ipco + ipma as u64;

@@ -1,4 +1,4 @@
-// The sizes of ipco and ipma: how long the properties are, and how many each item has.
+// The size of ipco: how long the properties are; and how many items ipma names.
 ghost use mathlib.Core.Path.{_≡_};
 ghost use mathlib.Core.Bool.{cond};
 ghost use mathlib.Core.Option.{none};
@@ -6,9 +6,9 @@ ghost use mathlib.Core.List.{List};
 ghost use Prim.Native.Nat.{ℕ, _+_, _*_, _≤_};
 ghost use lib.ListN.{length};
 ghost use Rattle.panel.specs.Of.{Lent, panel-of, part, cicp-of, light-of, alternate-of, gain-of};
-ghost use Rattle.panel.specs.Items.{ordinary, has, shape};
+ghost use Rattle.panel.specs.Items.{has};
 ghost use Rattle.length.specs.Parts.{long};
-ghost use Rattle.length.specs.Properties.{first-colr-size, second-colr-size, alternates-size, irot-count, imir-count, gain-properties-size, ipco-size, pictures, ipma-size};
+ghost use Rattle.length.specs.Properties.{first-colr-size, second-colr-size, alternates-size, irot-count, imir-count, gain-properties-size, ipco-size, pictures};
 ghost use Rattle.sizes.specs.Capped.{Capped, Length-of, Measured};
 use crate::lengths::Lengths;
 use checks::shape::has_cicp;
@@ -21,11 +21,9 @@ use panel::color::MaybeColorMetadata;
 use panel::color::Part;
 use panel::gain_map::MaybeGainMap;
 use panel::metadata::Metadata;
-use places::associations::ipma_bytes;
 use places::counts::imir_count;
 use places::counts::irot_count;
 use places::counts::light_count;
-use places::places_of;
 
 // ---- irot, imir, clli and colr
 
@@ -147,7 +145,7 @@ pub fn gain_properties_size(gain: MaybeGainMap, hvcc: u32, icc: u32) -> u64
     }
 }
 
-// ---- ipco and ipma
+// ---- ipco, and how many items ipma names
 
 // ipco, the whole box.
 pub fn ipco_size(panel: Panel, y: Lengths) -> u64
@@ -174,12 +172,4 @@ pub fn picture_count(s: Shape) -> u32
     ensures { λ r. ⌜ r ≤ 131076 ⌝ }
 {
     2 * s.tiles + 2 + when(s.gain, 1) + when(s.tone, 1)
-}
-
-// ipma, the whole box, from the runs of the properties' positions.
-pub fn ipma_size(panel: Panel, s: Shape) -> u32
-    requires { ⌜ s .tiles ≤ 65536 ⌝ }
-    ensures { λ r. ⌜ ((l : Lent) → s ≡ shape (panel-of panel l) → r ≡ 8 + ipma-size ordinary (panel-of panel l)) ⌝ }
-{
-    ipma_bytes(s, places_of(panel, s))
 }

@@ -1,4 +1,4 @@
--- From the answer of the length call to the promise of the writing call: the three ways that it takes.
+-- From the plan to the promise of the writing call: the three ways that it takes.
 use mathlib.Core.Path.{_≡_, refl, sym, ap, _∙_}
 use mathlib.Core.Bool.{Bool, true, false}
 use mathlib.Core.List.{List, [], _∷_, _++_}
@@ -17,6 +17,8 @@ use Rattle.panel.specs.Answer.{Outcome, made, refused, number, says, outcome, l
 use Rattle.panel.specs.declared.Refusal.{Refusal}
 use Rattle.panel.specs.declared.Refusal.the-variants.{GridSide, TileCount, SampleLengths, ItemIds, FileLength, OutputLength}
 use Rattle.panel.specs.declared.Answer.the-variants.{Length, Refused}
+use Rattle.layout.specs.Plan.{Made-from}
+use Rattle.layout.specs.declared.FilePlan.{FilePlan}
 
 -- ---- a list of checks, and one more behind it
 
@@ -44,10 +46,6 @@ goes-on (c ∷ l) m u e = go (c .holds tt) (goes-on l m (u .1)) e
 
 -- ---- what an outcome says
 
-made-zero : (r n k : ℕ) → made k ≡ outcome r n → (r ≡ 0) × (k ≡ n)
-made-zero zero n k e = (refl, cc)
-made-zero (suc r) n k e = absurd (let z : _≡_ {A = ℕ} 0 1 = cc in omega arith)
-
 refused-suc : (r n k : ℕ) → refused (suc k) ≡ outcome r n → r ≡ suc k
 refused-suc zero n k e = absurd (let z : _≡_ {A = ℕ} 0 1 = cc in omega arith)
 refused-suc (suc r) n k e = cc
@@ -61,11 +59,6 @@ module _ (p : Panel) where
 
   numbered : Numbered (checks ordinary long p)
   numbered = (omega arith, (omega arith, (omega arith, (omega arith, (omega arith, tt)))))
-
-  -- what the length call answered
-  pub passed : (k : ℕ) → says (Length k) ≡ length-answer ordinary p → (refusal ordinary p ≡ 0) × (k ≡ length (file ordinary p))
-  unfolding length-answer
-  passed k e = made-zero (refusal ordinary p) long k e
 
   one-more : (room : ℕ) → refusal ordinary p ≡ 0 → refusal-in ordinary room p ≡ first (room-check room)
   unfolding refusal refusal-in
@@ -94,7 +87,7 @@ module _ (p : Panel) where
   unfolding length-answer
   by-number old k e = promise old (refused (suc k)) (answers old (still (length old) k (refused-suc (refusal ordinary p) long k e))) refl
 
-  pub by-refusal : (old : List ℕ) (r : Refusal) → says (Refused r) ≡ length-answer ordinary p → Promised ordinary p old (says (Refused r)) old
+  pub by-refusal : (old : List ℕ) (r : Refusal) → refused (number r) ≡ length-answer ordinary p → Promised ordinary p old (says (Refused r)) old
   by-refusal old GridSide e = by-number old 0 e
   by-refusal old TileCount e = by-number old 1 e
   by-refusal old SampleLengths e = by-number old 2 e
@@ -102,13 +95,10 @@ module _ (p : Panel) where
   by-refusal old FileLength e = by-number old 4 e
   by-refusal old OutputLength e = by-number old 5 e
 
-  pub by-room : (old : List ℕ) (k : ℕ) → says (Length k) ≡ length-answer ordinary p → length old < k → Promised ordinary p old (says (Refused OutputLength)) old
-  by-room old k e h =
-      let g = passed k e in
-      promise old (refused 6) (answers old (no-room (length old) (g .0) (omega (arith, g .1, h)))) refl
+  -- the plan is made
+  module _ {f : FilePlan} (m : Made-from p f) where
+    pub by-room : (old : List ℕ) → length old < f .length → Promised ordinary p old (says (Refused OutputLength)) old
+    by-room old h = promise old (refused 6) (answers old (no-room (length old) (m .accepted) (omega (arith, m .long, h)))) refl
 
-  pub by-writing : (old new : List ℕ) (k m r : ℕ) → says (Length k) ≡ length-answer ordinary p → k ≤ length old → Wrote old 0 m (file ordinary p) new r
-      → Promised ordinary p old (says (Length k)) new
-  by-writing old new k m r e h v =
-      let g = passed k e in
-      promise old (made k) (ap made (g .1) ∙ answers old (in-room (length old) (g .0) (omega (arith, g .1, h)))) (front v (omega (arith, g .1, h, v .size)))
+    pub by-writing : {old new : List ℕ} {n r : ℕ} → f .length ≤ length old → Wrote old 0 n (file ordinary p) new r → Promised ordinary p old (says (Length (f .length))) new
+    by-writing {old} h v = promise old (made (f .length)) (ap made (m .long) ∙ answers old (in-room (length old) (m .accepted) (omega (arith, m .long, h)))) (front v (omega (arith, m .long, h, v .size)))

@@ -19,8 +19,8 @@ use boxes::ftyp::write_ftyp;
 use gain_map::location::PayloadLengths;
 use isobmff::meta::write_meta;
 use isobmff::payload::write_mdat;
-use layout::file_length;
-use layout::lay_out;
+use layout::Plan;
+use layout::plan_of;
 use offsets::Layout;
 use panel::Answer;
 use panel::Panel;
@@ -28,7 +28,6 @@ use panel::Refusal;
 use panel::color::Part;
 use panel::gain_map::MaybeGainMap;
 use places::Places;
-use places::places_of;
 use sizes::properties::picture_count;
 
 // The length of the Exif payload, 0 where it is absent.
@@ -166,7 +165,7 @@ pub fn wrap_hevc_grid_with_alpha(
     ensures { λ r. ⌜ Promised ordinary (panel-of panel (lent (now («color_hvcc» .entry)) (now («alpha_hvcc» .entry)) (now («color_lengths» .entry)) (now («alpha_lengths» .entry)) (now («color_samples» .entry)) (now («alpha_samples» .entry)) (now (icc .entry)) (now (exif .entry)) (now («gain_hvcc» .entry)) (now («gain_sample» .entry)) (now («gain_xmp» .entry)) (now («gain_tmap» .entry)) (now («alternate_icc» .entry)))) (now (out .entry)) (says r) (now (out .exit)) ⌝ }
     ensures { λ r. ⌜ Fits (panel-of panel (lent (now («color_hvcc» .entry)) (now («alpha_hvcc» .entry)) (now («color_lengths» .entry)) (now («alpha_lengths» .entry)) (now («color_samples» .entry)) (now («alpha_samples» .entry)) (now (icc .entry)) (now (exif .entry)) (now («gain_hvcc» .entry)) (now («gain_sample» .entry)) (now («gain_xmp» .entry)) (now («gain_tmap» .entry)) (now («alternate_icc» .entry)))) ⌝ }
 {
-    let answer = file_length(
+    let plan = plan_of(
         panel,
         color_hvcc,
         alpha_hvcc,
@@ -182,29 +181,14 @@ pub fn wrap_hevc_grid_with_alpha(
         gain_tmap,
         alternate_icc,
     );
-    match answer {
-        Answer::Refused(r) => Answer::Refused(r),
-        Answer::Length(size) => {
-            if (out.len() as u64) < size {
+    match plan {
+        Plan::Refused(r) => Answer::Refused(r),
+        Plan::Made(file) => {
+            if (out.len() as u64) < file.length {
                 return Answer::Refused(Refusal::OutputLength);
             }
-            let y = lay_out(
-                panel,
-                color_hvcc,
-                alpha_hvcc,
-                color_lengths,
-                alpha_lengths,
-                color_samples,
-                alpha_samples,
-                icc,
-                exif,
-                gain_hvcc,
-                gain_sample,
-                gain_xmp,
-                gain_tmap,
-                alternate_icc,
-            );
-            let z = places_of(panel, y.shape);
+            let y = file.layout;
+            let z = file.places;
             write_file(
                 out,
                 y,
@@ -224,7 +208,7 @@ pub fn wrap_hevc_grid_with_alpha(
                 gain_tmap,
                 alternate_icc,
             );
-            Answer::Length(size)
+            Answer::Length(file.length)
         }
     }
 }

@@ -1,120 +1,18 @@
--- Each check that refuses answers, and where none does the sum of the boxes is the length.
+-- By the plan: a refusal is passed on, and a plan that is made has the length.
 use borrow.Author.Needs.{needs}
-use native.Mathlib.Omega.{arith}
-use mathlib.Core.Path.{refl, sym, _∙_}
-use lib.ListN.{length}
-use Rattle.layout.specs.Lent.{lent}
-use Rattle.layout.proofs.Answers.{few, stop-1, stop-2, stop-3, stop-4, stop-5, done}
+use Rattle.layout.proofs.Answers.{made-length}
 use Rattle.layout.proofs.file_length.Statement.{statement}
 use Rattle.layout.proofs.file_length.Tie as tie
 
 returns : tie.Need-returns
-unfolding lent
 returns c =
-    let c2 = c .before in
-    let c1 = c2 .before .before in
-    (stop-1 _ _ (sym (c2 .bad-grid .ensures) ∙ c .if1 .taken), (c1 .numbers-fit .ensures) .1 _)
+    let y = c .before .before .before in
+    (rw (c .before .plan .given .1) at ((y .plan-of .ensures) .0), (y .plan-of .ensures) .1)
 
 returns-2 : tie.Need-returns-2
-unfolding lent
 returns-2 c =
-    let c3 = c .before in
-    let c2 = c3 .before .before in
-    let c1 = c2 .before .before in
-    let sides = sym (c2 .bad-grid .ensures) ∙ c3 .before .if1 .left in
-    (stop-2 _ _ sides (sym (c3 .bad-counts .ensures) ∙ c .if2 .taken), (c1 .numbers-fit .ensures) .1 _)
-
-returns-3 : tie.Need-returns-3
-unfolding lent
-returns-3 c =
-    let c4 = c .before in
-    let c3 = c4 .before .before in
-    let c2 = c3 .before .before in
-    let c1 = c2 .before .before in
-    let sides = sym (c2 .bad-grid .ensures) ∙ c3 .before .if1 .left in
-    let counts = sym (c3 .bad-counts .ensures) ∙ c4 .before .if2 .left in
-    (stop-3 _ _ sides counts (sym (c4 .bad-sums .ensures) ∙ c .if3 .taken), (c1 .numbers-fit .ensures) .1 _)
-
-cast-shape-of : tie.Need-cast-shape-of
-cast-shape-of c =
-    let c4 = c .before in
-    let c3 = c4 .before .before in
-    let c2 = c3 .before .before in
-    let c1 = c2 .before .before in
-    let start = c1 .before .before .before .before .before .before .before .before .before .before .before .before .before .before in
-    let sides = sym (c2 .bad-grid .ensures) ∙ c3 .before .if1 .left in
-    let counts = sym (c3 .bad-counts .ensures) ∙ c4 .before .if2 .left in
-    let d = start .args .panel .dims in
-    omega (arith, few (d .rows) (d .cols) (length (start .args .color-lengths .now)) (length (start .args .alpha-lengths .now)) sides counts)
-
-last-id-requires : tie.Need-last-id-requires
-last-id-requires c κs =
-    let c5 = c in
-    let c4 = c5 .before .before in
-    let c3 = c4 .before .before in
-    let c2 = c3 .before .before in
-    let c1 = c2 .before .before in
-    let start = c1 .before .before .before .before .before .before .before .before .before .before .before .before .before .before in
-    let sides = sym (c2 .bad-grid .ensures) ∙ c3 .before .if1 .left in
-    let counts = sym (c3 .bad-counts .ensures) ∙ c4 .before .if2 .left in
-    let d = start .args .panel .dims in
-    rw ((c5 .shape-of .ensures) .1) (few (d .rows) (d .cols) (length (start .args .color-lengths .now)) (length (start .args .alpha-lengths .now)) sides counts)
-
-returns-4 : tie.Need-returns-4
-unfolding lent
-returns-4 c =
-    let c6 = c .before in
-    let c5 = c6 .before in
-    let c4 = c5 .before .before in
-    let c3 = c4 .before .before in
-    let c2 = c3 .before .before in
-    let c1 = c2 .before .before in
-    let sides = sym (c2 .bad-grid .ensures) ∙ c3 .before .if1 .left in
-    let counts = sym (c3 .bad-counts .ensures) ∙ c4 .before .if2 .left in
-    let sums = sym (c4 .bad-sums .ensures) ∙ c5 .before .if3 .left in
-    (stop-4 _ _ (record { sides = sides; counts = counts; sums = sums }) ((c5 .shape-of .ensures) .0 _ refl) (rw ((c6 .last-id .ensures) .0) at (c .if4 .taken)), (c1 .numbers-fit .ensures) .1 _)
-
-returns-5 : tie.Need-returns-5
-unfolding lent
-returns-5 c =
-    let c12 = c .before in
-    let c11 = c12 .before in
-    let c10 = c11 .before in
-    let c9 = c10 .before in
-    let c8 = c9 .before in
-    let c7 = c8 .before in
-    let c6 = c7 .before .before in
-    let c5 = c6 .before in
-    let c4 = c5 .before .before in
-    let c3 = c4 .before .before in
-    let c2 = c3 .before .before in
-    let c1 = c2 .before .before in
-    let sides = sym (c2 .bad-grid .ensures) ∙ c3 .before .if1 .left in
-    let counts = sym (c3 .bad-counts .ensures) ∙ c4 .before .if2 .left in
-    let sums = sym (c4 .bad-sums .ensures) ∙ c5 .before .if3 .left in
-    let last = rw ((c6 .last-id .ensures) .0) at (c7 .before .if4 .left) in
-    (stop-5 _ _ (record { sides = sides; counts = counts; sums = sums }) ((c5 .shape-of .ensures) .0 _ refl) last ((c12 .file-size .ensures) _ ((c11 .sizes-of .ensures) .0 _ ((c8 .lengths-of .ensures) _ refl refl refl refl refl refl (c7 .gain-lengths .ensures)) ((c5 .shape-of .ensures) .0 _ refl) (c9 .hvcc-uses-rext .ensures) ((c10 .gain-uses-rext .ensures) _ refl))) (c .if5 .taken), (c1 .numbers-fit .ensures) .1 _)
-
-returns-6 : tie.Need-returns-6
-unfolding lent
-returns-6 c =
-    let c12 = c .before in
-    let c11 = c12 .before in
-    let c10 = c11 .before in
-    let c9 = c10 .before in
-    let c8 = c9 .before in
-    let c7 = c8 .before in
-    let c6 = c7 .before .before in
-    let c5 = c6 .before in
-    let c4 = c5 .before .before in
-    let c3 = c4 .before .before in
-    let c2 = c3 .before .before in
-    let c1 = c2 .before .before in
-    let sides = sym (c2 .bad-grid .ensures) ∙ c3 .before .if1 .left in
-    let counts = sym (c3 .bad-counts .ensures) ∙ c4 .before .if2 .left in
-    let sums = sym (c4 .bad-sums .ensures) ∙ c5 .before .if3 .left in
-    let last = rw ((c6 .last-id .ensures) .0) at (c7 .before .if4 .left) in
-    (done _ _ (record { sides = sides; counts = counts; sums = sums }) ((c5 .shape-of .ensures) .0 _ refl) last ((c12 .file-size .ensures) _ ((c11 .sizes-of .ensures) .0 _ ((c8 .lengths-of .ensures) _ refl refl refl refl refl refl (c7 .gain-lengths .ensures)) ((c5 .shape-of .ensures) .0 _ refl) (c9 .hvcc-uses-rext .ensures) ((c10 .gain-uses-rext .ensures) _ refl))) (c .if5 .left), (c1 .numbers-fit .ensures) .1 _)
+    let y = c .before .before .before in
+    (made-length _ _ (rw (c .before .plan2 .given .1) at ((y .plan-of .ensures) .0)), (y .plan-of .ensures) .1)
 
 pub file-length-spec : {M : Type 1} → statement M
-file-length-spec = tie.close (tie.spec (λ c κs. search needs) (λ c κs. search needs) returns (λ c κs. search needs) returns-2 (λ c κs. search needs) returns-3 cast-shape-of (λ c κs. search needs) last-id-requires returns-4 (λ c κs. search needs) (λ c κs. search needs) (λ c κs. search needs) (λ c κs. search needs) (λ c κs. search needs) (λ c κs. search needs) returns-5 returns-6)
+file-length-spec = tie.close (tie.spec (λ c κs. search needs) (λ c. search needs) (λ c. search needs) returns returns-2)

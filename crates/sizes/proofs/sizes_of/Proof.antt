@@ -1,7 +1,7 @@
 -- Box by box.
 use borrow.Author.Needs.{needs}
 use native.Mathlib.Omega.{arith}
-use mathlib.Core.Path.{ap, _∙_}
+use mathlib.Core.Path.{sym, ap, _∙_}
 use mathlib.Core.Bool.{cond}
 use Prim.Native.Nat.{ℕ, _+_}
 use Rattle.sizes.proofs.Caps.{iprp-capped, meta-capped}
@@ -9,6 +9,8 @@ use Rattle.panel.specs.Of.{panel-of}
 use Rattle.length.specs.Size.{iloc-size, iinf-size, iref-size, ftyp-size}
 use Rattle.panel.specs.Items.{ordinary}
 use Rattle.panel.specs.declared.Shape.{Shape}
+use Rattle.places.specs.Counts.{ipma-bytes}
+use Rattle.places.proofs.Sizes.{ipma-by-runs}
 use Rattle.sizes.proofs.sizes_of.Statement.{statement}
 use Rattle.sizes.proofs.sizes_of.Tie as tie
 
@@ -25,25 +27,27 @@ returns c =
     let c2 = c3 .before in
     let c1 = c2 .before in
     let start = c1 .before .before in (
-      λ l m e c g.
+      λ l m e f c g.
+          let z = start .args .z in
+          let ipma = (c4 .ipma-bytes .ensures) .0 ∙ ap (λ (s : Shape). ipma-bytes s z) e ∙ sym (ipma-by-runs (panel-of (start .args .panel) l) z f) in
           let iloc = (c1 .iloc-size .ensures) ∙ ap (λ (s : Shape). 8 + iloc-size ordinary s) e in
           let iinf = (c2 .iinf-size .ensures) ∙ ap (λ (s : Shape). 8 + iinf-size ordinary s) e in
           let iref = (c3 .iref-size .ensures) ∙ ap (λ (s : Shape). 8 + iref-size ordinary s) e in
           let grpl = (c7 .when .ensures) .0 ∙ ap (λ (s : Shape). cond {A = ℕ} (s .tone) 36 0) e in
-          let iprp = iprp-capped (panel-of (start .args .panel) l) ((c6 .ipco-size .ensures) .0 l m) ((c4 .ipma-size .ensures) l e) in
+          let iprp = iprp-capped (panel-of (start .args .panel) l) ((c6 .ipco-size .ensures) .0 l m) ipma in
           record {
             ftyp = (c8 .ftyp-size .ensures) ∙ (λ i. 8 + ftyp-size (c i) (g i) (e i .tone));
             iloc = iloc;
             iinf = iinf;
             iref = iref;
-            ipma = (c4 .ipma-size .ensures) l e;
+            ipma = ipma;
             idat = (c5 .idat-size .ensures);
             ipco = (c6 .ipco-size .ensures) .0 l m;
             iprp = iprp;
             meta = meta-capped (panel-of (start .args .panel) l) iloc iinf iref iprp grpl (c5 .idat-size .ensures);
             mdat = (c9 .mdat-size .ensures) .0 l m;
           },
-      record { meta = omega (arith, (c6 .ipco-size .ensures) .1, (c7 .when .ensures) .1); mdat = omega (arith, (c9 .mdat-size .ensures) .1) },
+      record { meta = omega (arith, (c6 .ipco-size .ensures) .1, (c7 .when .ensures) .1, (c4 .ipma-bytes .ensures) .1); mdat = omega (arith, (c9 .mdat-size .ensures) .1) },
     )
 
 pub sizes-of-spec : {M : Type 1} → statement M
