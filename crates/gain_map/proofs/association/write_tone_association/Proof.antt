@@ -10,13 +10,14 @@ use Rattle.places.specs.Counts.{tone-count}
 use Rattle.places.specs.Lists.{tone-list}
 use Rattle.places.proofs.Lengths.{length-tone-list}
 use Rattle.boxes.proofs.Marks.{associated}
+use Rattle.boxes.proofs.Shapes.{tone-id-fits}
 use Rattle.gain_map.proofs.association.write_tone_association.Statement.{statement}
 use Rattle.gain_map.proofs.association.write_tone_association.Tie as tie
 
 tmap-id-requires : tie.Need-tmap-id-requires
 tmap-id-requires c κs =
     let start = c .before .before in
-    (start .pre .1 .0, c .if1 .taken)
+    (start .pre .1 .0, tone-id-fits (start .pre .1 .0) (c .if1 .taken))
 
 write-association-head-requires : tie.Need-write-association-head-requires
 write-association-head-requires c κs =
