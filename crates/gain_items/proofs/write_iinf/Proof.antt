@@ -6,13 +6,18 @@ use mathlib.Core.Bool.{Bool, true, false}
 use mathlib.Core.List.{List, [], _∷_, _++_}
 use Prim.Native.Nat.{ℕ, _+_}
 use Rattle.octets.specs.Numbers.{_‖_, be, text}
+use Rattle.octets.specs.Boxes.{full}
+use Rattle.octets.specs.Stores.{Boxed}
 use Rattle.octets.proofs.Lists.{cond-mul}
 use Rattle.octets.proofs.Stores.{retold, _▸_}
-use Rattle.panel.specs.Items.{ordinary, given}
-use Rattle.panel.specs.Iinf.{infe}
+use Rattle.panel.specs.Items.{given}
 use Rattle.boxes.proofs.Shapes.{gain-ids-fit, tone-id-fits}
 use Rattle.gain_items.proofs.write_iinf.Statement.{statement}
 use Rattle.gain_items.proofs.write_iinf.Tie as tie
+
+-- the same entry, said otherwise: its flags, and what stands behind them
+entered : {l o x y : List ℕ} {i m r f : ℕ} (b : Bool) (g : ℕ) → Boxed l i m (given b (full "infe" 2 f x ∷ [])) o r → f ≡ g → x ≡ y → Boxed l i m (given b (full "infe" 2 g y ∷ [])) o r
+entered b g p h e = retold p (λ i. given b (full "infe" 2 (h i) (e i) ∷ [])) refl
 
 -- one by one, or both
 both : {A : Type 0} (b : Bool) (x y : A) (r : List A) → given b (x ∷ []) ++ (given b (y ∷ []) ++ r) ≡ given b (x ∷ y ∷ []) ++ r
@@ -50,9 +55,9 @@ returns c =
     let c1 = c2 .before .before .before .before .before .before in
     let n = c1 .before .before .before .before in
     let s = n .before .before .args .s in
-    let image = retold (c1 .write-given-infe .ensures) (ap (λ (k : ℕ). given (s .gain) (infe ordinary 1 k "hvc1" [] ∷ [])) (n .gain-number .ensures)) refl in
-    let xmp = retold (c2 .write-given-infe2 .ensures) (ap (λ (k : ℕ). given (s .gain) (infe ordinary 1 (k + 1) "mime" (text "application/rdf+xml" ‖ be 1 0) ∷ [])) (n .gain-number .ensures)) refl in
-    let tone = retold (c3 .write-given-infe3 .ensures) (ap (λ (k : ℕ). given (s .tone) (infe ordinary 0 (k + 2) "tmap" [] ∷ [])) (n .gain-number .ensures)) refl in
+    let image = entered (s .gain) 1 (c1 .write-given-infe .ensures) refl (ap (λ (k : ℕ). be 2 k ‖ be 2 0 ‖ text "hvc1" ‖ be 1 0) (n .gain-number .ensures)) in
+    let xmp = entered (s .gain) 1 (c2 .write-given-infe2 .ensures) refl (ap (λ (k : ℕ). be 2 (k + 1) ‖ be 2 0 ‖ text "mime" ‖ be 1 0 ‖ text "application/rdf+xml" ‖ be 1 0) (n .gain-number .ensures)) in
+    let tone = entered (s .tone) 0 (c3 .write-given-infe3 .ensures) refl (ap (λ (k : ℕ). be 2 (k + 2) ‖ be 2 0 ‖ text "tmap" ‖ be 1 0) (n .gain-number .ensures)) in
     retold (image ▸ xmp ▸ tone) (both (s .gain) _ _ _) (omega (arith, cond-mul (s .gain) 21, cond-mul (s .gain) 41, cond-mul (s .gain) 62))
 
 pub write-iinf-spec : {M : Type 1} → statement M
