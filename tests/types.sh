@@ -25,5 +25,5 @@ mistaken() {
 compiles boxes || fail "the unedited copy of boxes does not compile"
 compiles places || fail "the unedited copy of places does not compile"
 mistaken boxes ids.rt 'write_id(out, a, ItemId(id))' 'write_id(out, a, panel::PropertyPosition(1))' "expected \`ItemId\`, found \`PropertyPosition\`"
-mistaken places positions.rt 'next: PropertyPosition(first.0 + count)' 'next: panel::ItemId(1)' "expected \`PropertyPosition\`, found \`ItemId\`"
+mistaken places positions.rt 'PropertyPosition(e.0 + k)' 'panel::ItemId(1)' "expected \`PropertyPosition\`, found \`ItemId\`"
 echo "types: a position is not taken for an id, nor an id for a position"

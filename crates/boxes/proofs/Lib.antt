@@ -2,4 +2,5 @@ pub mod Optional
 pub mod Loops
 pub mod Marks
 pub mod Pictures
+pub mod Shapes
 pub mod Tests

@@ -54,6 +54,26 @@ pub fn write_run(out: &mut [u8], at: usize, run: Run, is_essential: bool) -> usi
     write_marked(out, at, run, mark_of(is_essential))
 }
 
+// The associations of three roles, all essential or none.
+pub fn write_runs(
+    out: &mut [u8],
+    at: usize,
+    one: Run,
+    two: Run,
+    three: Run,
+    is_essential: bool,
+) -> usize
+    requires { ⌜ at + (one .count + (two .count + three .count)) ≤ length (now out) ⌝ }
+    requires { ⌜ Fitting one ⌝ }
+    requires { ⌜ Fitting two ⌝ }
+    requires { ⌜ Fitting three ⌝ }
+    ensures { λ r. ⌜ Wrote (now (out .entry)) at (one .count + (two .count + three .count)) (marked «is_essential» (places one) ‖ marked «is_essential» (places two) ‖ marked «is_essential» (places three)) (now (out .exit)) r ⌝ }
+{
+    let a = write_run(out, at, one, is_essential);
+    let b = write_run(out, a, two, is_essential);
+    write_run(out, b, three, is_essential)
+}
+
 // The head of an entry: the item's id and the count of its associations.
 pub fn write_association_head(out: &mut [u8], at: usize, id: ItemId, count: u8) -> usize
     requires { ⌜ at + 3 ≤ length (now out) ⌝ }
@@ -80,9 +100,7 @@ pub fn write_tile_association(
     ensures { λ r. ⌜ Wrote (now (out .entry)) at (3 + (one .count + (two .count + three .count))) (association ordinary (id .0 with essential (places one) ‖ essential (places two) ‖ essential (places three))) (now (out .exit)) r ⌝ }
 {
     let a = write_association_head(out, at, id, one.count + (two.count + three.count));
-    let b = write_run(out, a, one, true);
-    let c = write_run(out, b, two, true);
-    write_run(out, c, three, true)
+    write_runs(out, a, one, two, three, true)
 }
 
 // The entries of n tiles from `first` on.
@@ -112,15 +130,4 @@ pub fn write_tile_associations(
         left -= 1;
     }
     a
-}
-
-// The transforms: irot, then imir, both essential.
-pub fn write_turns(out: &mut [u8], at: usize, irot: Run, imir: Run) -> usize
-    requires { ⌜ at + (irot .count + imir .count) ≤ length (now out) ⌝ }
-    requires { ⌜ Fitting irot ⌝ }
-    requires { ⌜ Fitting imir ⌝ }
-    ensures { λ r. ⌜ Wrote (now (out .entry)) at (irot .count + imir .count) (essential (places irot) ‖ essential (places imir)) (now (out .exit)) r ⌝ }
-{
-    let a = write_run(out, at, irot, true);
-    write_run(out, a, imir, true)
 }

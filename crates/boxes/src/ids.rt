@@ -46,14 +46,6 @@ pub fn write_count(out: &mut [u8], at: usize, n: u32) -> usize
     w16(out, at, n as u16)
 }
 
-// The id that stands k behind another.
-pub fn behind(id: ItemId, k: u16) -> ItemId
-    requires { ⌜ id .0 + k ≤ 65535 ⌝ }
-    ensures { λ r. ⌜ r .0 ≡ id .0 + k ⌝ }
-{
-    ItemId(id.0 + k)
-}
-
 pub fn color_grid_id(s: Shape) -> ItemId
     requires { ⌜ last-id s ≤ 65535 ⌝ }
     ensures { λ r. ⌜ r .0 ≡ colour-grid s ⌝ }

@@ -1,13 +1,15 @@
 // infe: one entry of iinf.
-ghost use mathlib.Core.Bool.{cond};
+ghost use mathlib.Core.Path.{_≡_};
+ghost use mathlib.Core.Bool.{true, cond};
 ghost use mathlib.Core.List.{[], _∷_};
 ghost use Prim.Native.Nat.{_+_, _*_, _≤_, _<_};
 ghost use lib.ListN.{length};
 ghost use Rattle.octets.specs.Numbers.{_‖_, be};
 ghost use Rattle.octets.specs.Boxes.{full};
 ghost use Rattle.octets.specs.Stores.{Boxed};
-ghost use Rattle.panel.specs.Items.{ordinary};
+ghost use Rattle.panel.specs.Items.{ordinary, given};
 ghost use Rattle.panel.specs.Iinf.{tile-infes};
+use crate::ids::item_id;
 use crate::ids::write_id;
 use crate::property::size_of;
 use octets::put;
@@ -44,6 +46,28 @@ pub fn write_infe(
     let d = put(out, c, kind);
     let e = w8(out, d, 0);
     put(out, e, content_type)
+}
+
+// The entry of an item that may be absent, by its number: that of an absent item may be more than an id can hold.
+pub fn write_given_infe(
+    out: &mut [u8],
+    at: usize,
+    present: bool,
+    number: u32,
+    kind: &[u8; 4],
+    hidden: bool,
+    content_type: &[u8],
+) -> usize
+    requires { ⌜ at + cond present (21 + length (now «content_type»)) 0 ≤ length (now out) ⌝ }
+    requires { ⌜ 21 + length (now «content_type») < 4294967296 ⌝ }
+    requires { ⌜ (present ≡ true → number ≤ 65535) ⌝ }
+    ensures { λ r. ⌜ Boxed (now (out .entry)) at (cond present (21 + length (now («content_type» .entry))) 0) (given present (full "infe" 2 (cond hidden 1 0) (be 2 number ‖ be 2 0 ‖ now (kind .entry) ‖ be 1 0 ‖ now («content_type» .entry)) ∷ [])) (now (out .exit)) r ⌝ }
+{
+    if present {
+        let id = item_id(number);
+        return write_infe(out, at, id, kind, hidden, content_type);
+    }
+    at
 }
 
 // The hidden entries of n tiles from `first` on.

@@ -1,31 +1,29 @@
 // The gain map's items: their ids, and their entries in iinf, iref and grpl.
 ghost use mathlib.Core.Path.{_≡_};
-ghost use mathlib.Core.Bool.{true, cond};
+ghost use mathlib.Core.Bool.{cond};
 ghost use mathlib.Core.List.{[], _∷_};
 ghost use Prim.Native.Nat.{_+_, _≤_};
 ghost use lib.ListN.{length};
-ghost use Rattle.octets.specs.Numbers.{_‖_, be, text};
 ghost use Rattle.octets.specs.Stores.{Boxed};
 ghost use Rattle.panel.specs.Items.{ordinary, given, gain-id, colour-grid};
-ghost use Rattle.panel.specs.Iinf.{infe, gain-infes};
+ghost use Rattle.panel.specs.Iinf.{gain-infes};
 ghost use Rattle.panel.specs.Iref.{reference, gain-references};
 ghost use Rattle.panel.specs.File.{grpl};
 ghost use Rattle.boxes.specs.Runs.{Shaped};
-use boxes::ids::behind;
 use boxes::ids::color_grid_id;
 use boxes::ids::gain_number;
 use boxes::ids::item_id;
-use boxes::infe::write_infe;
+use boxes::infe::write_given_infe;
 use boxes::meta::write_grpl;
 use boxes::reference::write_dimg_pair;
 use boxes::reference::write_ref;
 use panel::ItemId;
 use panel::Shape;
 
-// The gain image's id.
+// The gain image's id: it and the one behind it, its XMP's, fit where there is a gain map.
 pub fn image_id(s: Shape) -> ItemId
     requires { ⌜ Shaped s ⌝ }
-    requires { ⌜ s .gain ≡ true ⌝ }
+    requires { ⌜ gain-id s + 1 ≤ 65535 ⌝ }
     ensures { λ r. ⌜ r .0 ≡ gain-id s ⌝ }
 {
     item_id(gain_number(s))
@@ -34,57 +32,39 @@ pub fn image_id(s: Shape) -> ItemId
 // Its XMP's id.
 pub fn xmp_id(s: Shape) -> ItemId
     requires { ⌜ Shaped s ⌝ }
-    requires { ⌜ s .gain ≡ true ⌝ }
+    requires { ⌜ gain-id s + 1 ≤ 65535 ⌝ }
     ensures { λ r. ⌜ r .0 ≡ gain-id s + 1 ⌝ }
 {
-    behind(image_id(s), 1)
+    item_id(gain_number(s) + 1)
 }
 
-// The tone map's id.
+// The tone map's id, which fits where there is one.
 pub fn tmap_id(s: Shape) -> ItemId
     requires { ⌜ Shaped s ⌝ }
-    requires { ⌜ s .tone ≡ true ⌝ }
+    requires { ⌜ gain-id s + 2 ≤ 65535 ⌝ }
     ensures { λ r. ⌜ r .0 ≡ gain-id s + 2 ⌝ }
 {
     item_id(gain_number(s) + 2)
 }
 
-// The hidden entries of the gain image and of its XMP.
-fn write_image_infes(out: &mut [u8], at: usize, s: Shape) -> usize
-    requires { ⌜ at + cond (s .gain) 62 0 ≤ length (now out) ⌝ }
-    requires { ⌜ Shaped s ⌝ }
-    ensures { λ r. ⌜ Boxed (now (out .entry)) at (cond (s .gain) 62 0) (given (s .gain) (infe ordinary 1 (gain-id s) "hvc1" [] ∷ infe ordinary 1 (gain-id s + 1) "mime" (text "application/rdf+xml" ‖ be 1 0) ∷ [])) (now (out .exit)) r ⌝ }
-{
-    if s.gain {
-        let image = image_id(s);
-        let xmp = xmp_id(s);
-        let a = write_infe(out, at, image, b"hvc1", true, b"");
-        return write_infe(out, a, xmp, b"mime", true, b"application/rdf+xml\0");
-    }
-    at
-}
-
-// The entry of the tone map, which is not hidden.
-fn write_tone_infe(out: &mut [u8], at: usize, s: Shape) -> usize
-    requires { ⌜ at + cond (s .tone) 21 0 ≤ length (now out) ⌝ }
-    requires { ⌜ Shaped s ⌝ }
-    ensures { λ r. ⌜ Boxed (now (out .entry)) at (cond (s .tone) 21 0) (given (s .tone) (infe ordinary 0 (gain-id s + 2) "tmap" [] ∷ [])) (now (out .exit)) r ⌝ }
-{
-    if s.tone {
-        let tone = tmap_id(s);
-        return write_infe(out, at, tone, b"tmap", false, b"");
-    }
-    at
-}
-
-// The gain map's entries in iinf.
+// The gain map's entries in iinf: the gain image and its XMP are hidden, the tone map is not.
 pub fn write_iinf(out: &mut [u8], at: usize, s: Shape) -> usize
     requires { ⌜ at + (cond (s .gain) 62 0 + cond (s .tone) 21 0) ≤ length (now out) ⌝ }
     requires { ⌜ Shaped s ⌝ }
     ensures { λ r. ⌜ Boxed (now (out .entry)) at (cond (s .gain) 62 0 + cond (s .tone) 21 0) (gain-infes ordinary s) (now (out .exit)) r ⌝ }
 {
-    let a = write_image_infes(out, at, s);
-    write_tone_infe(out, a, s)
+    let n = gain_number(s);
+    let a = write_given_infe(out, at, s.gain, n, b"hvc1", true, b"");
+    let b = write_given_infe(
+        out,
+        a,
+        s.gain,
+        n + 1,
+        b"mime",
+        true,
+        b"application/rdf+xml\0",
+    );
+    write_given_infe(out, b, s.tone, n + 2, b"tmap", false, b"")
 }
 
 // The gain image is auxiliary to the colour grid, and its XMP describes it.

@@ -14,7 +14,7 @@ ghost use Rattle.places.specs.Lists.{image-list, tone-list};
 use boxes::association::Run;
 use boxes::association::write_association_head;
 use boxes::association::write_run;
-use boxes::association::write_turns;
+use boxes::association::write_runs;
 use gain_items::image_id;
 use gain_items::tmap_id;
 use panel::Shape;
@@ -37,11 +37,10 @@ fn write_image_list(out: &mut [u8], at: usize, p: ImagePlaces, irot: Run, imir: 
     let auxc = p.auxc;
     let colr = p.colr;
     let a = write_run(out, at, hvcc, true);
-    let b = write_run(out, a, ispe, false);
-    let c = write_run(out, b, pixi, false);
-    let d = write_run(out, c, auxc, false);
-    let e = write_run(out, d, colr, false);
-    write_turns(out, e, irot, imir)
+    let b = write_runs(out, a, ispe, pixi, auxc, false);
+    let c = write_run(out, b, colr, false);
+    let d = write_run(out, c, irot, true);
+    write_run(out, d, imir, true)
 }
 
 // The gain image's entry, where there is one.
@@ -68,20 +67,6 @@ fn write_image_association(
     at
 }
 
-// The tone map's properties, without the head of the entry.
-fn write_tone_list(out: &mut [u8], at: usize, p: TonePlaces) -> usize
-    requires { ⌜ at + tone-count p ≤ length (now out) ⌝ }
-    requires { ⌜ Tone-fits p ⌝ }
-    ensures { λ r. ⌜ Wrote (now (out .entry)) at (tone-count p) (tone-list p) (now (out .exit)) r ⌝ }
-{
-    let ispe = p.ispe;
-    let pixi = p.pixi;
-    let colr = p.colr;
-    let a = write_run(out, at, ispe, false);
-    let b = write_run(out, a, pixi, false);
-    write_run(out, b, colr, false)
-}
-
 // The tone map's entry, where there is one. None of its properties is essential.
 fn write_tone_association(out: &mut [u8], at: usize, s: Shape, p: TonePlaces) -> usize
     requires { ⌜ at + cond (s .tone) (3 + tone-count p) 0 ≤ length (now out) ⌝ }
@@ -89,10 +74,13 @@ fn write_tone_association(out: &mut [u8], at: usize, s: Shape, p: TonePlaces) ->
     requires { ⌜ Tone-fits p ⌝ }
     ensures { λ r. ⌜ Wrote (now (out .entry)) at (cond (s .tone) (3 + tone-count p) 0) (flatMap (association ordinary) (given (s .tone) ((gain-id s + 2 with tone-list p) ∷ []))) (now (out .exit)) r ⌝ }
 {
+    let ispe = p.ispe;
+    let pixi = p.pixi;
+    let colr = p.colr;
     if s.tone {
         let id = tmap_id(s);
         let a = write_association_head(out, at, id, tone_count(p));
-        return write_tone_list(out, a, p);
+        return write_runs(out, a, ispe, pixi, colr, false);
     }
     at
 }

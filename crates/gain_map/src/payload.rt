@@ -3,7 +3,6 @@ ghost use mathlib.Core.Path.{_≡_};
 ghost use mathlib.Core.List.{flatten};
 ghost use Prim.Native.Nat.{_+_, _≤_};
 ghost use lib.ListN.{length};
-ghost use Rattle.octets.specs.Numbers.{_‖_};
 ghost use Rattle.octets.specs.Stores.{Wrote};
 ghost use Rattle.panel.specs.Items.{listed};
 ghost use Rattle.panel.specs.Of.{part};
@@ -23,24 +22,7 @@ pub fn put_part(out: &mut [u8], at: usize, present: Part, bytes: &[u8]) -> usize
     }
 }
 
-// The sample, the XMP and the tone map.
-fn write_payloads(
-    out: &mut [u8],
-    at: usize,
-    tmap_present: Part,
-    sample: &[u8],
-    xmp: &[u8],
-    tmap: &[u8],
-) -> usize
-    requires { ⌜ at + (length (now sample) + (length (now xmp) + long (part «tmap_present» (now tmap)))) ≤ length (now out) ⌝ }
-    ensures { λ r. ⌜ Wrote (now (out .entry)) at (length (now (sample .entry)) + (length (now (xmp .entry)) + long (part «tmap_present» (now (tmap .entry))))) (now (sample .entry) ‖ now (xmp .entry) ‖ flatten (listed (part «tmap_present» (now (tmap .entry))))) (now (out .exit)) r ⌝ }
-{
-    let a = put(out, at, sample);
-    let b = put(out, a, xmp);
-    put_part(out, b, tmap_present, tmap)
-}
-
-// The payloads of a gain map, where there is one.
+// The sample, the XMP and the tone map of a gain map, where there is one.
 pub fn write_data(
     out: &mut [u8],
     at: usize,
@@ -55,7 +37,9 @@ pub fn write_data(
     match gain {
         MaybeGainMap::Some(g) => {
             let present = g.tmap;
-            write_payloads(out, at, present, sample, xmp, tmap)
+            let a = put(out, at, sample);
+            let b = put(out, a, xmp);
+            put_part(out, b, present, tmap)
         }
         MaybeGainMap::None => at,
     }

@@ -13,8 +13,3 @@ pub record Sided (d : GridDims) : Type 0 where
   pub rows-most : d .rows ≤ 256
   pub cols : 1 ≤ d .cols
   pub cols-most : d .cols ≤ 256
-
--- sizes of 16 bits
-pub record Narrow (d : GridDims) : Type 0 where
-  pub width : d .«full_w» ≤ 65535
-  pub height : d .«full_h» ≤ 65535

@@ -1,15 +1,16 @@
 // The descriptor of a grid: how many rows and columns of tiles it has, and the size of the whole picture.
 ghost use mathlib.Core.Path.{_≡_};
-ghost use mathlib.Core.Bool.{true, false};
+ghost use mathlib.Core.Bool.{false, cond};
 ghost use Prim.Native.Nat.{_+_, _-_, _≤_};
 ghost use lib.ListN.{length};
 ghost use Rattle.octets.specs.Numbers.{_‖_, be};
 ghost use Rattle.octets.specs.Stores.{Wrote};
-ghost use Rattle.panel.specs.Iloc.{wide, descriptor-of, descriptor};
-ghost use Rattle.grids.specs.Descriptors.{descriptor-size, Sided, Narrow};
+ghost use Rattle.panel.specs.Iloc.{wide, descriptor};
+ghost use Rattle.grids.specs.Descriptors.{descriptor-size, Sided};
 use octets::w8;
 use octets::w16;
 use octets::w32;
+use octets::when;
 use panel::GridDims;
 
 // Whether the whole picture is wider or higher than 16 bits can say.
@@ -31,27 +32,16 @@ fn write_grid_head(out: &mut [u8], at: usize, flags: u8, d: GridDims) -> usize
     w8(out, c, (d.cols - 1) as u8)
 }
 
-// The descriptor of a grid with sizes of 32 bits.
-fn write_descriptor_32(out: &mut [u8], at: usize, d: GridDims) -> usize
-    requires { ⌜ at + 12 ≤ length (now out) ⌝ }
-    requires { ⌜ Sided d ⌝ }
-    ensures { λ r. ⌜ Wrote (now (out .entry)) at 12 (descriptor-of true d) (now (out .exit)) r ⌝ }
+// A side of the whole picture, in 32 bits or in 16.
+fn write_side(out: &mut [u8], at: usize, large: bool, n: u32) -> usize
+    requires { ⌜ at + cond large 4 2 ≤ length (now out) ⌝ }
+    requires { ⌜ (large ≡ false → n ≤ 65535) ⌝ }
+    ensures { λ r. ⌜ Wrote (now (out .entry)) at (cond large 4 2) (be (cond large 4 2) n) (now (out .exit)) r ⌝ }
 {
-    let a = write_grid_head(out, at, 2, d);
-    let b = w32(out, a, d.full_w);
-    w32(out, b, d.full_h)
-}
-
-// The descriptor of a grid with sizes of 16 bits.
-fn write_descriptor_16(out: &mut [u8], at: usize, d: GridDims) -> usize
-    requires { ⌜ at + 8 ≤ length (now out) ⌝ }
-    requires { ⌜ Sided d ⌝ }
-    requires { ⌜ Narrow d ⌝ }
-    ensures { λ r. ⌜ Wrote (now (out .entry)) at 8 (descriptor-of false d) (now (out .exit)) r ⌝ }
-{
-    let a = write_grid_head(out, at, 0, d);
-    let b = w16(out, a, d.full_w as u16);
-    w16(out, b, d.full_h as u16)
+    if large {
+        return w32(out, at, n);
+    }
+    w16(out, at, n as u16)
 }
 
 // The descriptor of a grid.
@@ -60,10 +50,11 @@ pub fn write_descriptor(out: &mut [u8], at: usize, d: GridDims) -> usize
     requires { ⌜ Sided d ⌝ }
     ensures { λ r. ⌜ Wrote (now (out .entry)) at (descriptor-size d) (descriptor d) (now (out .exit)) r ⌝ }
 {
-    if is_wide(d) {
-        return write_descriptor_32(out, at, d);
-    }
-    write_descriptor_16(out, at, d)
+    let large = is_wide(d);
+    let flags = when(large, 2);
+    let a = write_grid_head(out, at, flags as u8, d);
+    let b = write_side(out, a, large, d.full_w);
+    write_side(out, b, large, d.full_h)
 }
 
 // The length of a grid's descriptor.

@@ -1,115 +1,58 @@
 // ipma: which properties each item has.
 ghost use mathlib.Core.Path.{_≡_};
 ghost use mathlib.Core.List.{[], _∷_, flatMap};
-ghost use Prim.Native.Nat.{_+_, _*_, _≤_};
+ghost use Prim.Native.Nat.{_+_, _≤_};
 ghost use lib.ListN.{length};
-ghost use Rattle.octets.specs.Numbers.{_‖_};
 ghost use Rattle.octets.specs.Stores.{Wrote, Boxed};
-ghost use Rattle.panel.specs.Items.{ordinary, colour-grid, alpha-tile, alpha-grid};
-ghost use Rattle.panel.specs.Ipma.{essential, _with_, each, association, associations, ipma};
+ghost use Rattle.panel.specs.Items.{ordinary};
+ghost use Rattle.panel.specs.Ipma.{_with_, association, associations, ipma};
 ghost use Rattle.length.specs.Properties.{pictures};
 ghost use Rattle.places.specs.Roles.{its-of, Fit};
-ghost use Rattle.places.specs.Counts.{ipma-bytes, color-grid-count, alpha-grid-count, color-entries-size, alpha-entries-size};
-ghost use Rattle.boxes.specs.Runs.{places, Fitting, Shaped};
+ghost use Rattle.places.specs.Counts.{ipma-bytes, grid-count, color-entries-size, alpha-entries-size};
+ghost use Rattle.boxes.specs.Runs.{Fitting, Shaped};
 ghost use Rattle.places.specs.Places.{Color-fits, Alpha-fits, Options-fit};
-ghost use Rattle.places.specs.Lists.{color-grid-list, alpha-grid-list, color-entries, alpha-entries};
+ghost use Rattle.places.specs.Lists.{grid-list, color-entries, alpha-entries};
 use boxes::association::Run;
 use boxes::association::write_association_head;
 use boxes::association::write_tile_associations;
 use boxes::ids::alpha_grid_id;
 use boxes::ids::alpha_tile_base;
 use boxes::ids::color_grid_id;
-use grid_lists::write_alpha_grid_list;
-use grid_lists::write_color_grid_list;
+use grid_lists::write_grid_list;
 use octets::w32;
 use octets::write_fullbox;
 use panel::ItemId;
 use panel::Shape;
 use places::Places;
-use places::associations::alpha_grid_count;
-use places::associations::color_grid_count;
+use places::associations::grid_count;
 use places::pictures::AlphaPlaces;
 use places::pictures::ColorPlaces;
 use places::pictures::OptionPlaces;
+use places::pictures::turns_of;
 
-// The colour tiles' entries: hvcC, ispe and colr, all essential.
-fn write_color_tile_associations(out: &mut [u8], at: usize, s: Shape, c: ColorPlaces) -> usize
-    requires { ⌜ at + (3 + (c .hvcc .count + (c .«ispe_tile» .count + c .colr .count))) * s .tiles ≤ length (now out) ⌝ }
-    requires { ⌜ Shaped s ⌝ }
-    requires { ⌜ Color-fits c ⌝ }
-    ensures { λ r. ⌜ Wrote (now (out .entry)) at ((3 + (c .hvcc .count + (c .«ispe_tile» .count + c .colr .count))) * s .tiles) (flatMap (association ordinary) (each 1 (s .tiles) (essential (places (c .hvcc)) ‖ essential (places (c .«ispe_tile»)) ‖ essential (places (c .colr))))) (now (out .exit)) r ⌝ }
-{
-    let hvcc = c.hvcc;
-    let tile = c.ispe_tile;
-    let colr = c.colr;
-    write_tile_associations(out, at, ItemId(1), s.tiles, hvcc, tile, colr)
-}
-
-// The colour grid's entry.
-fn write_color_grid_association(
+// A grid's entry: ispe, two roles of its own, of which the first may be essential, and those that may be absent.
+fn write_grid_association(
     out: &mut [u8],
     at: usize,
-    s: Shape,
-    c: ColorPlaces,
-    o: OptionPlaces,
-) -> usize
-    requires { ⌜ at + (3 + color-grid-count c o) ≤ length (now out) ⌝ }
-    requires { ⌜ Shaped s ⌝ }
-    requires { ⌜ Color-fits c ⌝ }
-    requires { ⌜ Options-fit o ⌝ }
-    ensures { λ r. ⌜ Wrote (now (out .entry)) at (3 + color-grid-count c o) (flatMap (association ordinary) ((colour-grid s with color-grid-list c o) ∷ [])) (now (out .exit)) r ⌝ }
-{
-    let id = color_grid_id(s);
-    let a = write_association_head(out, at, id, color_grid_count(c, o));
-    write_color_grid_list(out, a, c, o)
-}
-
-// The alpha tiles' entries: hvcC and ispe, both essential.
-fn write_alpha_tile_associations(
-    out: &mut [u8],
-    at: usize,
-    s: Shape,
-    a: AlphaPlaces,
-    tile: Run,
-) -> usize
-    requires { ⌜ at + (3 + (a .hvcc .count + tile .count)) * s .tiles ≤ length (now out) ⌝ }
-    requires { ⌜ Shaped s ⌝ }
-    requires { ⌜ Alpha-fits a ⌝ }
-    requires { ⌜ Fitting tile ⌝ }
-    ensures { λ r. ⌜ Wrote (now (out .entry)) at ((3 + (a .hvcc .count + tile .count)) * s .tiles) (flatMap (association ordinary) (each (alpha-tile s) (s .tiles) (essential (places (a .hvcc)) ‖ essential (places tile)))) (now (out .exit)) r ⌝ }
-{
-    let first = alpha_tile_base(s);
-    let hvcc = a.hvcc;
-    let behind = tile.first;
-    let none = Run {
-        first: behind,
-        count: 0,
-    };
-    write_tile_associations(out, at, first, s.tiles, hvcc, tile, none)
-}
-
-// The alpha grid's entry.
-fn write_alpha_grid_association(
-    out: &mut [u8],
-    at: usize,
-    s: Shape,
+    id: ItemId,
     full: Run,
-    a: AlphaPlaces,
+    two: Run,
+    is_essential: bool,
+    three: Run,
     o: OptionPlaces,
 ) -> usize
-    requires { ⌜ at + (3 + alpha-grid-count full a o) ≤ length (now out) ⌝ }
-    requires { ⌜ Shaped s ⌝ }
+    requires { ⌜ at + (3 + grid-count full two three o) ≤ length (now out) ⌝ }
     requires { ⌜ Fitting full ⌝ }
-    requires { ⌜ Alpha-fits a ⌝ }
+    requires { ⌜ Fitting two ⌝ }
+    requires { ⌜ Fitting three ⌝ }
     requires { ⌜ Options-fit o ⌝ }
-    ensures { λ r. ⌜ Wrote (now (out .entry)) at (3 + alpha-grid-count full a o) (flatMap (association ordinary) ((alpha-grid s with alpha-grid-list full a o) ∷ [])) (now (out .exit)) r ⌝ }
+    ensures { λ r. ⌜ Wrote (now (out .entry)) at (3 + grid-count full two three o) (flatMap (association ordinary) ((id .0 with grid-list full two «is_essential» three o) ∷ [])) (now (out .exit)) r ⌝ }
 {
-    let id = alpha_grid_id(s);
-    let b = write_association_head(out, at, id, alpha_grid_count(full, a, o));
-    write_alpha_grid_list(out, b, full, a, o)
+    let a = write_association_head(out, at, id, grid_count(full, two, three, o));
+    write_grid_list(out, a, full, two, is_essential, three, o)
 }
 
-// The entries of the colour picture: its tiles and its grid.
+// The entries of the colour picture: its tiles with hvcC, ispe and colr, all essential, and its grid.
 fn write_color_associations(
     out: &mut [u8],
     at: usize,
@@ -123,11 +66,17 @@ fn write_color_associations(
     requires { ⌜ Options-fit o ⌝ }
     ensures { λ r. ⌜ Wrote (now (out .entry)) at (color-entries-size s c o) (flatMap (association ordinary) (color-entries s c o)) (now (out .exit)) r ⌝ }
 {
-    let a = write_color_tile_associations(out, at, s, c);
-    write_color_grid_association(out, a, s, c, o)
+    let hvcc = c.hvcc;
+    let tile = c.ispe_tile;
+    let full = c.ispe_full;
+    let colr = c.colr;
+    let pixi = c.pixi;
+    let grid = color_grid_id(s);
+    let a = write_tile_associations(out, at, ItemId(1), s.tiles, hvcc, tile, colr);
+    write_grid_association(out, a, grid, full, colr, true, pixi, o)
 }
 
-// The entries of the alpha picture: its tiles and its grid.
+// The entries of the alpha picture: its tiles with hvcC and ispe, both essential, and its grid, for which o has the transforms alone.
 fn write_alpha_associations(
     out: &mut [u8],
     at: usize,
@@ -143,10 +92,20 @@ fn write_alpha_associations(
     requires { ⌜ Options-fit o ⌝ }
     ensures { λ r. ⌜ Wrote (now (out .entry)) at (alpha-entries-size s c a o) (flatMap (association ordinary) (alpha-entries s c a o)) (now (out .exit)) r ⌝ }
 {
+    let hvcc = a.hvcc;
+    let pixi = a.pixi;
+    let auxc = a.auxc;
     let tile = c.ispe_tile;
     let full = c.ispe_full;
-    let b = write_alpha_tile_associations(out, at, s, a, tile);
-    write_alpha_grid_association(out, b, s, full, a, o)
+    let behind = tile.first;
+    let none = Run {
+        first: behind,
+        count: 0,
+    };
+    let first = alpha_tile_base(s);
+    let grid = alpha_grid_id(s);
+    let b = write_tile_associations(out, at, first, s.tiles, hvcc, tile, none);
+    write_grid_association(out, b, grid, full, pixi, false, auxc, o)
 }
 
 // ipma, with so many entries.
@@ -165,9 +124,10 @@ pub fn write_ipma(out: &mut [u8], at: usize, size: u32, count: u32, s: Shape, y:
     let tone = y.tone;
     let irot = options.irot;
     let imir = options.imir;
+    let turns = turns_of(options);
     let a = write_fullbox(out, at, size, b"ipma", 0, 0);
     let b = w32(out, a, count);
     let c = write_color_associations(out, b, s, color, options);
-    let d = write_alpha_associations(out, c, s, color, alpha, options);
+    let d = write_alpha_associations(out, c, s, color, alpha, turns);
     gain_map::association::write_ipma(out, d, s, image, tone, irot, imir)
 }

@@ -17,6 +17,7 @@ use boxes::ids::color_grid_id;
 use boxes::ids::exif_number;
 use boxes::ids::item_id;
 use boxes::ids::write_count;
+use boxes::infe::write_given_infe;
 use boxes::infe::write_infe;
 use boxes::infe::write_tile_infes;
 use boxes::reference::write_dimg_tiles;
@@ -49,19 +50,6 @@ fn write_alpha_infes(out: &mut [u8], at: usize, s: Shape) -> usize
     write_infe(out, a, alpha_grid, b"grid", false, b"")
 }
 
-// The Exif's entry, where it is present.
-fn write_exif_infe(out: &mut [u8], at: usize, s: Shape) -> usize
-    requires { ⌜ at + cond (s .exif) 21 0 ≤ length (now out) ⌝ }
-    requires { ⌜ Shaped s ⌝ }
-    ensures { λ r. ⌜ Boxed (now (out .entry)) at (cond (s .exif) 21 0) (given (s .exif) (infe ordinary 0 (exif-id s) "Exif" [] ∷ [])) (now (out .exit)) r ⌝ }
-{
-    if s.exif {
-        let id = exif_id(s);
-        return write_infe(out, at, id, b"Exif", false, b"");
-    }
-    at
-}
-
 // The Exif's id.
 pub fn exif_id(s: Shape) -> ItemId
     requires { ⌜ Shaped s ⌝ }
@@ -82,7 +70,7 @@ pub fn write_iinf(out: &mut [u8], at: usize, size: u32, s: Shape) -> usize
     let b = write_count(out, a, last_id(s));
     let c = write_color_infes(out, b, s);
     let d = write_alpha_infes(out, c, s);
-    let e = write_exif_infe(out, d, s);
+    let e = write_given_infe(out, d, s.exif, exif_number(s), b"Exif", false, b"");
     gain_items::write_iinf(out, e, s)
 }
 

@@ -9,16 +9,15 @@ use Rattle.places.specs.declared.pictures.OptionPlaces.{OptionPlaces}
 use Rattle.places.specs.declared.positions.ImagePlaces.{ImagePlaces}
 use Rattle.places.specs.declared.positions.TonePlaces.{TonePlaces}
 use Rattle.places.specs.declared.Places.{Places}
+use Rattle.places.specs.Places.{turns-of}
 
--- of those of the colour grid's properties that may be absent
+-- of the properties that may be absent
 abbrev pub option-count : OptionPlaces → ℕ
 option-count o = o .colr .count + (o .clli .count + (o .irot .count + o .imir .count))
 
-abbrev pub color-grid-count : ColorPlaces → OptionPlaces → ℕ
-color-grid-count c o = c .«ispe_full» .count + (c .colr .count + (c .pixi .count + option-count o))
-
-abbrev pub alpha-grid-count : Run → AlphaPlaces → OptionPlaces → ℕ
-alpha-grid-count full a o = full .count + (a .pixi .count + (a .auxc .count + (o .irot .count + o .imir .count)))
+-- of a grid: ispe, two roles of its own, and those that may be absent
+abbrev pub grid-count : Run → Run → Run → OptionPlaces → ℕ
+grid-count full two three o = full .count + (two .count + (three .count + option-count o))
 
 abbrev pub image-count : ImagePlaces → Run → Run → ℕ
 image-count p irot imir = p .hvcc .count + (p .ispe .count + (p .pixi .count + (p .auxc .count + (p .colr .count + (irot .count + imir .count)))))
@@ -29,14 +28,14 @@ tone-count p = p .ispe .count + (p .pixi .count + p .colr .count)
 -- ---- the entries of each picture: its tiles, then its grid
 
 abbrev pub color-entries-size : Shape → ColorPlaces → OptionPlaces → ℕ
-color-entries-size s c o = (3 + (c .hvcc .count + (c .«ispe_tile» .count + c .colr .count))) * s .tiles + (3 + color-grid-count c o)
+color-entries-size s c o = (3 + (c .hvcc .count + (c .«ispe_tile» .count + c .colr .count))) * s .tiles + (3 + grid-count (c .«ispe_full») (c .colr) (c .pixi) o)
 
 abbrev pub alpha-entries-size : Shape → ColorPlaces → AlphaPlaces → OptionPlaces → ℕ
-alpha-entries-size s c a o = (3 + (a .hvcc .count + c .«ispe_tile» .count)) * s .tiles + (3 + alpha-grid-count (c .«ispe_full») a o)
+alpha-entries-size s c a o = (3 + (a .hvcc .count + c .«ispe_tile» .count)) * s .tiles + (3 + grid-count (c .«ispe_full») (a .pixi) (a .auxc) o)
 
 -- how many bytes ipma takes
 abbrev pub ipma-bytes : Shape → Places → ℕ
 ipma-bytes s y =
     16 + (color-entries-size s (y .color) (y .options)
-    + (alpha-entries-size s (y .color) (y .alpha) (y .options)
+    + (alpha-entries-size s (y .color) (y .alpha) (turns-of (y .options))
     + (cond (s .gain) (3 + image-count (y .image) (y .options .irot) (y .options .imir)) 0 + cond (s .tone) (3 + tone-count (y .tone)) 0)))

@@ -26,6 +26,10 @@ abbrev pub options-at : ℕ → ℕ → ℕ → ℕ → ℕ → OptionPlaces
 options-at n colr irot imir clli =
     record { colr = run-at n colr; irot = run-at (n + colr) irot; imir = run-at (n + colr + irot) imir; clli = run-at (n + colr + irot + imir) clli }
 
+-- the transforms alone
+abbrev pub turns-of : OptionPlaces → OptionPlaces
+turns-of o = record { colr = run-at (o .colr .first .0) 0; irot = o .irot; imir = o .imir; clli = run-at (o .clli .first .0) 0 }
+
 pub record Color-fits (c : ColorPlaces) : Type 0 where
   pub hvcc : Fitting (c .hvcc)
   pub tile : Fitting (c .«ispe_tile»)

@@ -1,7 +1,7 @@
 // How many properties each item is associated with, and how many bytes ipma takes for them.
 ghost use mathlib.Core.Path.{_≡_};
-ghost use Prim.Native.Nat.{_+_, _≤_};
-ghost use Rattle.places.specs.Counts.{color-grid-count, alpha-grid-count, image-count, tone-count, color-entries-size, alpha-entries-size, ipma-bytes};
+ghost use Prim.Native.Nat.{_+_, _*_, _≤_};
+ghost use Rattle.places.specs.Counts.{grid-count, image-count, tone-count, color-entries-size, alpha-entries-size, ipma-bytes};
 ghost use Rattle.places.specs.Roles.{Fit};
 ghost use Rattle.boxes.specs.Runs.{Fitting};
 ghost use Rattle.places.specs.Places.{Color-fits, Alpha-fits, Options-fit, Image-fits, Tone-fits};
@@ -9,41 +9,28 @@ use crate::Places;
 use crate::pictures::AlphaPlaces;
 use crate::pictures::ColorPlaces;
 use crate::pictures::OptionPlaces;
+use crate::pictures::turns_of;
 use crate::positions::ImagePlaces;
 use crate::positions::TonePlaces;
 use boxes::association::Run;
 use octets::when;
 use panel::Shape;
 
-// How many properties the colour grid has.
-pub fn color_grid_count(c: ColorPlaces, o: OptionPlaces) -> u8
-    requires { ⌜ Color-fits c ⌝ }
+// How many properties a grid has: ispe, two roles of its own, and those that may be absent.
+pub fn grid_count(full: Run, two: Run, three: Run, o: OptionPlaces) -> u8
+    requires { ⌜ Fitting full ⌝ }
+    requires { ⌜ Fitting two ⌝ }
+    requires { ⌜ Fitting three ⌝ }
     requires { ⌜ Options-fit o ⌝ }
-    ensures { λ r. ⌜ r ≡ color-grid-count c o ⌝ }
+    ensures { λ r. ⌜ r ≡ grid-count full two three o ⌝ }
+    ensures { λ r. ⌜ r ≤ 14 ⌝ }
 {
-    let full = c.ispe_full;
-    let colr = c.colr;
-    let pixi = c.pixi;
     let second = o.colr;
     let clli = o.clli;
     let irot = o.irot;
     let imir = o.imir;
     full.count
-        + (colr.count + (pixi.count + (second.count + (clli.count + (irot.count + imir.count)))))
-}
-
-// How many properties the alpha grid has.
-pub fn alpha_grid_count(full: Run, a: AlphaPlaces, o: OptionPlaces) -> u8
-    requires { ⌜ Fitting full ⌝ }
-    requires { ⌜ Alpha-fits a ⌝ }
-    requires { ⌜ Options-fit o ⌝ }
-    ensures { λ r. ⌜ r ≡ alpha-grid-count full a o ⌝ }
-{
-    let pixi = a.pixi;
-    let auxc = a.auxc;
-    let irot = o.irot;
-    let imir = o.imir;
-    full.count + (pixi.count + (auxc.count + (irot.count + imir.count)))
+        + (two.count + (three.count + (second.count + (clli.count + (irot.count + imir.count)))))
 }
 
 // How many associations the gain image has.
@@ -73,7 +60,18 @@ pub fn tone_count(p: TonePlaces) -> u8
     ispe.count + (pixi.count + colr.count)
 }
 
-// How many bytes the entries of the colour picture take: its tiles and its grid.
+// How many bytes the entries of a picture take: those of n tiles with so many properties each, and that of its grid.
+fn entries_size(n: u32, tile: u8, grid: u8) -> u32
+    requires { ⌜ n ≤ 65536 ⌝ }
+    requires { ⌜ tile ≤ 6 ⌝ }
+    requires { ⌜ grid ≤ 14 ⌝ }
+    ensures { λ r. ⌜ r ≡ (3 + tile) * n + (3 + grid) ⌝ }
+    ensures { λ r. ⌜ r ≤ 590000 ⌝ }
+{
+    (3 + tile) as u32 * n + (3 + grid) as u32
+}
+
+// Those of the colour picture.
 fn color_entries_size(s: Shape, c: ColorPlaces, o: OptionPlaces) -> u32
     requires { ⌜ s .tiles ≤ 65536 ⌝ }
     requires { ⌜ Color-fits c ⌝ }
@@ -83,27 +81,31 @@ fn color_entries_size(s: Shape, c: ColorPlaces, o: OptionPlaces) -> u32
 {
     let hvcc = c.hvcc;
     let tile = c.ispe_tile;
+    let full = c.ispe_full;
     let colr = c.colr;
-    let each = 3 + (hvcc.count + (tile.count + colr.count));
-    let grid = 3 + color_grid_count(c, o);
-    each as u32 * s.tiles + grid as u32
+    let pixi = c.pixi;
+    let each = hvcc.count + (tile.count + colr.count);
+    let grid = grid_count(full, colr, pixi, o);
+    entries_size(s.tiles, each, grid)
 }
 
-// How many bytes the entries of the alpha picture take: its tiles and its grid.
+// Those of the alpha picture, of whose properties that may be absent o has the transforms alone.
 fn alpha_entries_size(s: Shape, c: ColorPlaces, a: AlphaPlaces, o: OptionPlaces) -> u32
     requires { ⌜ s .tiles ≤ 65536 ⌝ }
     requires { ⌜ Color-fits c ⌝ }
     requires { ⌜ Alpha-fits a ⌝ }
     requires { ⌜ Options-fit o ⌝ }
     ensures { λ r. ⌜ r ≡ alpha-entries-size s c a o ⌝ }
-    ensures { λ r. ⌜ r ≤ 460000 ⌝ }
+    ensures { λ r. ⌜ r ≤ 590000 ⌝ }
 {
     let hvcc = a.hvcc;
+    let pixi = a.pixi;
+    let auxc = a.auxc;
     let tile = c.ispe_tile;
     let full = c.ispe_full;
-    let each = 3 + (hvcc.count + tile.count);
-    let grid = 3 + alpha_grid_count(full, a, o);
-    each as u32 * s.tiles + grid as u32
+    let each = hvcc.count + tile.count;
+    let grid = grid_count(full, pixi, auxc, o);
+    entries_size(s.tiles, each, grid)
 }
 
 // ipma, the whole box.
@@ -111,7 +113,7 @@ pub fn ipma_bytes(s: Shape, y: Places) -> u32
     requires { ⌜ s .tiles ≤ 65536 ⌝ }
     requires { ⌜ Fit y ⌝ }
     ensures { λ r. ⌜ r ≡ ipma-bytes s y ⌝ }
-    ensures { λ r. ⌜ r ≤ 1100000 ⌝ }
+    ensures { λ r. ⌜ r ≤ 1200000 ⌝ }
 {
     let color = y.color;
     let alpha = y.alpha;
@@ -121,7 +123,8 @@ pub fn ipma_bytes(s: Shape, y: Places) -> u32
     let irot = options.irot;
     let imir = options.imir;
     let colors = color_entries_size(s, color, options);
-    let alphas = alpha_entries_size(s, color, alpha, options);
+    let turns = turns_of(options);
+    let alphas = alpha_entries_size(s, color, alpha, turns);
     let images = when(s.gain, 3 + image_count(image, irot, imir) as u32);
     let tones = when(s.tone, 3 + tone_count(tone) as u32);
     16 + (colors + (alphas + (images + tones)))

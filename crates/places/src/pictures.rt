@@ -1,10 +1,10 @@
 // The positions of the properties of the colour picture and the alpha picture, and of those that may be absent.
 ghost use mathlib.Core.Path.{_≡_};
 ghost use Prim.Native.Nat.{_+_, _*_, _≤_};
-ghost use Rattle.places.specs.Places.{color-at, alpha-at, options-at};
-use crate::positions::take;
+ghost use Rattle.places.specs.Places.{color-at, alpha-at, options-at, turns-of, Options-fit};
 use boxes::association::Run;
 use gain_positions::Positions;
+use panel::PropertyPosition;
 
 // The colour picture's properties.
 pub struct ColorPlaces {
@@ -45,55 +45,47 @@ pub struct PlacedOptions {
     pub positions: Positions,
 }
 
-// The positions of the colour picture's properties, one of each.
-pub fn color_places(positions: Positions, each: u8) -> PlacedColor
-    requires { ⌜ positions .next .0 + 5 * each ≤ 127 ⌝ }
-    requires { ⌜ each ≤ 1 ⌝ }
-    ensures { λ r. ⌜ (r .places ≡ color-at (positions .next .0) each) × (r .positions .next .0 ≡ positions .next .0 + each + each + each + each + each) ⌝ }
+// The positions of the colour picture's properties, k of each.
+pub fn color_places(positions: Positions, k: u8) -> PlacedColor
+    requires { ⌜ positions .next .0 + 5 * k ≤ 127 ⌝ }
+    requires { ⌜ k ≤ 1 ⌝ }
+    ensures { λ r. ⌜ (r .places ≡ color-at (positions .next .0) k) × (r .positions .next .0 ≡ positions .next .0 + k + k + k + k + k) ⌝ }
 {
-    let hvcc = take(positions, each);
-    let tile = take(hvcc.positions, each);
-    let full = take(tile.positions, each);
-    let colr = take(full.positions, each);
-    let pixi = take(colr.positions, each);
-    let a = hvcc.run;
-    let b = tile.run;
-    let c = full.run;
-    let d = colr.run;
-    let e = pixi.run;
-    let next = pixi.positions;
+    let a = positions.next;
+    let b = PropertyPosition(a.0 + k);
+    let c = PropertyPosition(b.0 + k);
+    let d = PropertyPosition(c.0 + k);
+    let e = PropertyPosition(d.0 + k);
+    let next = PropertyPosition(e.0 + k);
     PlacedColor {
         places: ColorPlaces {
-            hvcc: a,
-            ispe_tile: b,
-            ispe_full: c,
-            colr: d,
-            pixi: e,
+            hvcc: Run { first: a, count: k },
+            ispe_tile: Run { first: b, count: k },
+            ispe_full: Run { first: c, count: k },
+            colr: Run { first: d, count: k },
+            pixi: Run { first: e, count: k },
         },
-        positions: next,
+        positions: Positions { next: next },
     }
 }
 
-// The positions of the alpha picture's properties, one of each.
-pub fn alpha_places(positions: Positions, each: u8) -> PlacedAlpha
-    requires { ⌜ positions .next .0 + 3 * each ≤ 127 ⌝ }
-    requires { ⌜ each ≤ 1 ⌝ }
-    ensures { λ r. ⌜ (r .places ≡ alpha-at (positions .next .0) each) × (r .positions .next .0 ≡ positions .next .0 + each + each + each) ⌝ }
+// The positions of the alpha picture's properties, k of each.
+pub fn alpha_places(positions: Positions, k: u8) -> PlacedAlpha
+    requires { ⌜ positions .next .0 + 3 * k ≤ 127 ⌝ }
+    requires { ⌜ k ≤ 1 ⌝ }
+    ensures { λ r. ⌜ (r .places ≡ alpha-at (positions .next .0) k) × (r .positions .next .0 ≡ positions .next .0 + k + k + k) ⌝ }
 {
-    let hvcc = take(positions, each);
-    let pixi = take(hvcc.positions, each);
-    let auxc = take(pixi.positions, each);
-    let a = hvcc.run;
-    let b = pixi.run;
-    let c = auxc.run;
-    let next = auxc.positions;
+    let a = positions.next;
+    let b = PropertyPosition(a.0 + k);
+    let c = PropertyPosition(b.0 + k);
+    let next = PropertyPosition(c.0 + k);
     PlacedAlpha {
         places: AlphaPlaces {
-            hvcc: a,
-            pixi: b,
-            auxc: c,
+            hvcc: Run { first: a, count: k },
+            pixi: Run { first: b, count: k },
+            auxc: Run { first: c, count: k },
         },
-        positions: next,
+        positions: Positions { next: next },
     }
 }
 
@@ -106,22 +98,50 @@ pub fn option_places(positions: Positions, colr: u8, irot: u8, imir: u8, clli: u
     requires { ⌜ clli ≤ 1 ⌝ }
     ensures { λ r. ⌜ (r .places ≡ options-at (positions .next .0) colr irot imir clli) × (r .positions .next .0 ≡ positions .next .0 + colr + irot + imir + clli) ⌝ }
 {
-    let second = take(positions, colr);
-    let turn = take(second.positions, irot);
-    let mirror = take(turn.positions, imir);
-    let light = take(mirror.positions, clli);
-    let a = second.run;
-    let b = turn.run;
-    let c = mirror.run;
-    let d = light.run;
-    let next = light.positions;
+    let a = positions.next;
+    let b = PropertyPosition(a.0 + colr);
+    let c = PropertyPosition(b.0 + irot);
+    let d = PropertyPosition(c.0 + imir);
+    let next = PropertyPosition(d.0 + clli);
     PlacedOptions {
         places: OptionPlaces {
-            colr: a,
-            irot: b,
-            imir: c,
-            clli: d,
+            colr: Run {
+                first: a,
+                count: colr,
+            },
+            irot: Run {
+                first: b,
+                count: irot,
+            },
+            imir: Run {
+                first: c,
+                count: imir,
+            },
+            clli: Run {
+                first: d,
+                count: clli,
+            },
         },
-        positions: next,
+        positions: Positions { next: next },
+    }
+}
+
+// Of the properties that may be absent the transforms alone.
+pub fn turns_of(o: OptionPlaces) -> OptionPlaces
+    requires { ⌜ Options-fit o ⌝ }
+    ensures { λ r. ⌜ r ≡ turns-of o ⌝ }
+    ensures { λ r. ⌜ Options-fit r ⌝ }
+{
+    let second = o.colr;
+    let clli = o.clli;
+    let irot = o.irot;
+    let imir = o.imir;
+    let a = second.first;
+    let b = clli.first;
+    OptionPlaces {
+        colr: Run { first: a, count: 0 },
+        irot: irot,
+        imir: imir,
+        clli: Run { first: b, count: 0 },
     }
 }

@@ -1,34 +1,10 @@
-// The next positions of the record, and the positions of the gain map's properties. The record goes in by value and comes back raised.
+// The positions of the gain map's properties, from the record's next position on. The record goes in by value and comes back raised.
 ghost use mathlib.Core.Path.{_≡_};
 ghost use Prim.Native.Nat.{_+_, _*_, _≤_};
-ghost use Rattle.places.specs.Places.{run-at, image-at, tone-at};
+ghost use Rattle.places.specs.Places.{image-at, tone-at};
 use boxes::association::Run;
 use gain_positions::Positions;
 use panel::PropertyPosition;
-
-// A run, and the positions behind it.
-pub struct Taken {
-    pub run: Run,
-    pub positions: Positions,
-}
-
-// The next `count` positions.
-pub fn take(positions: Positions, count: u8) -> Taken
-    requires { ⌜ positions .next .0 + count ≤ 127 ⌝ }
-    requires { ⌜ count ≤ 2 ⌝ }
-    ensures { λ r. ⌜ (r .run ≡ run-at (positions .next .0) count) × (r .positions .next .0 ≡ positions .next .0 + count) ⌝ }
-{
-    let first = positions.next;
-    Taken {
-        run: Run {
-            first: first,
-            count: count,
-        },
-        positions: Positions {
-            next: PropertyPosition(first.0 + count),
-        },
-    }
-}
 
 // The positions of the gain image's properties.
 pub struct ImagePlaces {
@@ -56,55 +32,50 @@ pub struct PlacedTone {
     pub positions: Positions,
 }
 
-// The gain image's positions, with so many boxes of each kind: one where there is a gain map, else none.
-pub fn image_places(positions: Positions, each: u8) -> PlacedImage
-    requires { ⌜ positions .next .0 + 5 * each ≤ 127 ⌝ }
-    requires { ⌜ each ≤ 1 ⌝ }
-    ensures { λ r. ⌜ (r .places ≡ image-at (positions .next .0) each) × (r .positions .next .0 ≡ positions .next .0 + each + each + each + each + each) ⌝ }
+// The gain image's positions, with k boxes of each kind: one where there is a gain map, else none.
+pub fn image_places(positions: Positions, k: u8) -> PlacedImage
+    requires { ⌜ positions .next .0 + 5 * k ≤ 127 ⌝ }
+    requires { ⌜ k ≤ 1 ⌝ }
+    ensures { λ r. ⌜ (r .places ≡ image-at (positions .next .0) k) × (r .positions .next .0 ≡ positions .next .0 + k + k + k + k + k) ⌝ }
 {
-    let hvcc = take(positions, each);
-    let ispe = take(hvcc.positions, each);
-    let pixi = take(ispe.positions, each);
-    let auxc = take(pixi.positions, each);
-    let colr = take(auxc.positions, each);
-    let a = hvcc.run;
-    let b = ispe.run;
-    let c = pixi.run;
-    let d = auxc.run;
-    let e = colr.run;
-    let next = colr.positions;
+    let a = positions.next;
+    let b = PropertyPosition(a.0 + k);
+    let c = PropertyPosition(b.0 + k);
+    let d = PropertyPosition(c.0 + k);
+    let e = PropertyPosition(d.0 + k);
+    let next = PropertyPosition(e.0 + k);
     PlacedImage {
         places: ImagePlaces {
-            hvcc: a,
-            ispe: b,
-            pixi: c,
-            auxc: d,
-            colr: e,
+            hvcc: Run { first: a, count: k },
+            ispe: Run { first: b, count: k },
+            pixi: Run { first: c, count: k },
+            auxc: Run { first: d, count: k },
+            colr: Run { first: e, count: k },
         },
-        positions: next,
+        positions: Positions { next: next },
     }
 }
 
-// The tone map's positions, with so many boxes of each kind and so many alternate colours.
-pub fn tone_places(positions: Positions, each: u8, alternates: u8) -> PlacedTone
-    requires { ⌜ positions .next .0 + (2 * each + alternates) ≤ 127 ⌝ }
-    requires { ⌜ each ≤ 1 ⌝ }
+// The tone map's positions, with k boxes of each kind and so many alternate colours.
+pub fn tone_places(positions: Positions, k: u8, alternates: u8) -> PlacedTone
+    requires { ⌜ positions .next .0 + (2 * k + alternates) ≤ 127 ⌝ }
+    requires { ⌜ k ≤ 1 ⌝ }
     requires { ⌜ alternates ≤ 2 ⌝ }
-    ensures { λ r. ⌜ (r .places ≡ tone-at (positions .next .0) each alternates) × (r .positions .next .0 ≡ positions .next .0 + each + each + alternates) ⌝ }
+    ensures { λ r. ⌜ (r .places ≡ tone-at (positions .next .0) k alternates) × (r .positions .next .0 ≡ positions .next .0 + k + k + alternates) ⌝ }
 {
-    let ispe = take(positions, each);
-    let pixi = take(ispe.positions, each);
-    let colr = take(pixi.positions, alternates);
-    let a = ispe.run;
-    let b = pixi.run;
-    let c = colr.run;
-    let next = colr.positions;
+    let a = positions.next;
+    let b = PropertyPosition(a.0 + k);
+    let c = PropertyPosition(b.0 + k);
+    let next = PropertyPosition(c.0 + alternates);
     PlacedTone {
         places: TonePlaces {
-            ispe: a,
-            pixi: b,
-            colr: c,
+            ispe: Run { first: a, count: k },
+            pixi: Run { first: b, count: k },
+            colr: Run {
+                first: c,
+                count: alternates,
+            },
         },
-        positions: next,
+        positions: Positions { next: next },
     }
 }

@@ -8,13 +8,14 @@ use Prim.Native.Nat.{ℕ}
 use mathlib.Core.List.{[], _∷_}
 use Rattle.octets.specs.Boxes.{boxes, box}
 use Rattle.panel.specs.File.{altr}
+use Rattle.boxes.proofs.Shapes.{tone-id-fits}
 use Rattle.gain_items.proofs.write_groups.Statement.{statement}
 use Rattle.gain_items.proofs.write_groups.Tie as tie
 
 tmap-id-requires : tie.Need-tmap-id-requires
 tmap-id-requires c κs =
     let start = c .before .before in
-    (start .pre .1, c .if1 .taken)
+    (start .pre .1, tone-id-fits (start .pre .1) (c .if1 .taken))
 
 write-grpl-requires : tie.Need-write-grpl-requires
 write-grpl-requires c κs =

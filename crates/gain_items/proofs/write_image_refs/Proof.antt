@@ -8,19 +8,20 @@ use Prim.Native.Nat.{ℕ}
 use Rattle.octets.specs.Numbers.{_‖_, be}
 use mathlib.Core.List.{[], _∷_, flatMap}
 use Rattle.octets.specs.Boxes.{box}
+use Rattle.boxes.proofs.Shapes.{gain-ids-fit}
 use Rattle.gain_items.proofs.write_image_refs.Statement.{statement}
 use Rattle.gain_items.proofs.write_image_refs.Tie as tie
 
 image-id-requires : tie.Need-image-id-requires
 image-id-requires c κs =
     let start = c .before .before in
-    (start .pre .1, c .if1 .taken)
+    (start .pre .1, gain-ids-fit (start .pre .1) (c .if1 .taken))
 
 xmp-id-requires : tie.Need-xmp-id-requires
 xmp-id-requires c κs =
     let c1 = c in
     let start = c1 .before .before .before in
-    (start .pre .1, c .before .if1 .taken)
+    (start .pre .1, gain-ids-fit (start .pre .1) (c .before .if1 .taken))
 
 write-ref-requires : tie.Need-write-ref-requires
 write-ref-requires c κs =

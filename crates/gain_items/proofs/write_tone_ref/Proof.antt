@@ -8,20 +8,21 @@ use Prim.Native.Nat.{ℕ}
 use mathlib.Core.List.{[], _∷_}
 use Rattle.panel.specs.Items.{ordinary}
 use Rattle.panel.specs.Iref.{reference}
+use Rattle.boxes.proofs.Shapes.{gain-ids-fit, tone-id-fits}
 use Rattle.gain_items.proofs.write_tone_ref.Statement.{statement}
 use Rattle.gain_items.proofs.write_tone_ref.Tie as tie
 
 tmap-id-requires : tie.Need-tmap-id-requires
 tmap-id-requires c κs =
     let start = c .before .before in
-    (start .pre .1, c .if1 .taken)
+    (start .pre .1, tone-id-fits (start .pre .1) (c .if1 .taken))
 
 image-id-requires : tie.Need-image-id-requires
 image-id-requires c κs =
     let c2 = c in
     let c1 = c2 .before in
     let start = c1 .before .before .before in
-    (start .pre .1, start .pre .1 .toned (c .before .before .if1 .taken))
+    (start .pre .1, gain-ids-fit (start .pre .1) (start .pre .1 .toned (c .before .before .if1 .taken)))
 
 write-dimg-pair-requires : tie.Need-write-dimg-pair-requires
 write-dimg-pair-requires c κs =

@@ -8,12 +8,10 @@ use Rattle.boxes.proofs.association.write_tile_association.Tie as tie
 
 returns : tie.Need-returns
 returns c =
-    let c4 = c .before .before in
-    let c3 = c4 .before .before .before .before in
-    let c2 = c3 .before .before .before .before in
+    let c2 = c .before .before in
     let c1 = c2 .before .before .before .before in
     let start = c1 .before .before .before .before .before .before in
-    told ((c1 .write-association-head .ensures) ▹ (c2 .write-run .ensures) ▹ (c3 .write-run2 .ensures) ▹ (c4 .write-run3 .ensures)) (three-associated (start .args .id .0) (start .args .one) (start .args .two) (start .args .three)) refl
+    told ((c1 .write-association-head .ensures) ▹ (c2 .write-runs .ensures)) (three-associated (start .args .id .0) (start .args .one) (start .args .two) (start .args .three)) refl
 
 pub write-tile-association-spec : {M : Type 1} → statement M
-write-tile-association-spec = tie.close (tie.spec (λ c. search needs) (λ c. search needs) (λ c κs. search needs) (λ c κs. search needs) (λ c κs. search needs) (λ c κs. search needs) (λ c. search needs) returns)
+write-tile-association-spec = tie.close (tie.spec (λ c. search needs) (λ c. search needs) (λ c κs. search needs) (λ c κs. search needs) (λ c. search needs) returns)

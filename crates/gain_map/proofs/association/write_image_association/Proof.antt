@@ -10,13 +10,14 @@ use Rattle.places.specs.Counts.{image-count}
 use Rattle.places.specs.Lists.{image-list}
 use Rattle.places.proofs.Lengths.{length-image-list}
 use Rattle.boxes.proofs.Marks.{associated}
+use Rattle.boxes.proofs.Shapes.{gain-ids-fit}
 use Rattle.gain_map.proofs.association.write_image_association.Statement.{statement}
 use Rattle.gain_map.proofs.association.write_image_association.Tie as tie
 
 image-id-requires : tie.Need-image-id-requires
 image-id-requires c κs =
     let start = c .before .before in
-    (start .pre .1 .0, c .if1 .taken)
+    (start .pre .1 .0, gain-ids-fit (start .pre .1 .0) (c .if1 .taken))
 
 write-association-head-requires : tie.Need-write-association-head-requires
 write-association-head-requires c κs =

@@ -1,4 +1,4 @@
--- The head and the list, or nothing.
+-- The head and three runs, or nothing.
 use borrow.Author.Needs.{needs}
 use native.Mathlib.Omega.{arith}
 use mathlib.Core.Path.{refl, sym, ap, _∙_}
@@ -10,28 +10,30 @@ use Rattle.places.specs.Counts.{tone-count}
 use Rattle.places.specs.Lists.{tone-list}
 use Rattle.places.proofs.Lengths.{length-tone-list}
 use Rattle.boxes.proofs.Marks.{associated}
+use Rattle.boxes.proofs.Shapes.{tone-id-fits}
 use Rattle.gain_map.proofs.association.write_tone_association.Statement.{statement}
 use Rattle.gain_map.proofs.association.write_tone_association.Tie as tie
 
 tmap-id-requires : tie.Need-tmap-id-requires
 tmap-id-requires c κs =
-    let start = c .before .before in
-    (start .pre .1 .0, c .if1 .taken)
+    let start = c .before .before .before .before .before in
+    (start .pre .1 .0, tone-id-fits (start .pre .1 .0) (c .if1 .taken))
 
 write-association-head-requires : tie.Need-write-association-head-requires
 write-association-head-requires c κs =
     let c2 = c in
     let c1 = c2 .before .before in
-    let start = c1 .before .before .before in
+    let start = c1 .before .before .before .before .before .before in
     omega (arith, start .pre .0, ap (λ (b : Bool). cond {A = ℕ} b (3 + tone-count (start .args .p)) 0) (c .before .before .before .if1 .taken))
 
-write-tone-list-requires : tie.Need-write-tone-list-requires
-write-tone-list-requires c κs =
+write-runs-requires : tie.Need-write-runs-requires
+write-runs-requires c κs =
     let c3 = c .before .before .before in
     let c2 = c3 .before in
     let c1 = c2 .before .before in
-    let start = c1 .before .before .before in
-    (omega (arith, start .pre .0, ap (λ (b : Bool). cond {A = ℕ} b (3 + tone-count (start .args .p)) 0) (c .before .before .before .before .before .before .before .if1 .taken), (c3 .write-association-head .ensures) .end, kept (c3 .write-association-head .ensures)), start .pre .1 .1)
+    let start = c1 .before .before .before .before .before .before in
+    let fits = start .pre .1 .1 in
+    (omega (arith, start .pre .0, ap (λ (b : Bool). cond {A = ℕ} b (3 + tone-count (start .args .p)) 0) (c1 .before .if1 .taken), (c3 .write-association-head .ensures) .end, kept (c3 .write-association-head .ensures)), (fits .ispe, (fits .pixi, fits .colr)))
 
 returns : tie.Need-returns
 returns c =
@@ -39,8 +41,8 @@ returns c =
     let c3 = c4 .before .before .before .before in
     let c2 = c3 .before in
     let c1 = c2 .before .before in
-    let start = c1 .before .before .before in
-    rw (c .before .before .before .before .before .before .before .before .before .before .if1 .taken) (told ((c3 .write-association-head .ensures) ▹ (c4 .write-tone-list .ensures)) (associated (tone-list (start .args .p)) (c1 .tmap-id .ensures) ((c2 .tone-count .ensures) ∙ sym (length-tone-list (start .args .p)))) refl)
+    let start = c1 .before .before .before .before .before .before in
+    rw (c1 .before .if1 .taken) (told ((c3 .write-association-head .ensures) ▹ (c4 .write-runs .ensures)) (associated (tone-list (start .args .p)) (c1 .tmap-id .ensures) ((c2 .tone-count .ensures) ∙ sym (length-tone-list (start .args .p)))) refl)
 
 returns-2 : tie.Need-returns-2
 unfolding flatMap
@@ -48,4 +50,4 @@ returns-2 c =
     rw (c .if1 .left) nothing
 
 pub write-tone-association-spec : {M : Type 1} → statement M
-write-tone-association-spec = tie.close (tie.spec tmap-id-requires (λ c κs. search needs) write-association-head-requires write-tone-list-requires (λ c. search needs) returns returns-2)
+write-tone-association-spec = tie.close (tie.spec tmap-id-requires (λ c κs. search needs) write-association-head-requires write-runs-requires (λ c. search needs) returns returns-2)

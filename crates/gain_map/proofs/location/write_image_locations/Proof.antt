@@ -8,19 +8,20 @@ use Rattle.panel.specs.Items.{ordinary}
 use Rattle.panel.specs.Iloc.{entry}
 use Rattle.locations.specs.Spans.{spans, location}
 use native.Mathlib.Numerals.{add-one}
+use Rattle.boxes.proofs.Shapes.{gain-ids-fit}
 use Rattle.gain_map.proofs.location.write_image_locations.Statement.{statement}
 use Rattle.gain_map.proofs.location.write_image_locations.Tie as tie
 
 image-id-requires : tie.Need-image-id-requires
 image-id-requires c κs =
     let start = c .before in
-    (start .pre .1 .0, start .pre .1 .1 .0)
+    (start .pre .1 .0, gain-ids-fit (start .pre .1 .0) (start .pre .1 .1 .0))
 
 xmp-id-requires : tie.Need-xmp-id-requires
 xmp-id-requires c κs =
     let c1 = c in
     let start = c1 .before .before in
-    (start .pre .1 .0, start .pre .1 .1 .0)
+    (start .pre .1 .0, gain-ids-fit (start .pre .1 .0) (start .pre .1 .1 .0))
 
 returns : tie.Need-returns
 unfolding spans flatMap

@@ -9,13 +9,14 @@ use mathlib.Core.List.{flatMap}
 use Rattle.panel.specs.Items.{ordinary}
 use Rattle.panel.specs.Iloc.{entry}
 use Rattle.locations.specs.Spans.{spans, location}
+use Rattle.boxes.proofs.Shapes.{tone-id-fits}
 use Rattle.gain_map.proofs.location.write_tone_location.Statement.{statement}
 use Rattle.gain_map.proofs.location.write_tone_location.Tie as tie
 
 tmap-id-requires : tie.Need-tmap-id-requires
 tmap-id-requires c κs =
     let start = c .before .before in
-    (start .pre .1, c .if1 .taken)
+    (start .pre .1, tone-id-fits (start .pre .1) (c .if1 .taken))
 
 write-location-requires : tie.Need-write-location-requires
 write-location-requires c κs =

@@ -1,27 +1,42 @@
--- The payloads of a gain map, or nothing.
+-- Three payloads, or nothing.
 use borrow.Author.Needs.{needs}
 use native.Mathlib.Omega.{arith}
 use mathlib.Core.Path.{ap}
-use Rattle.octets.proofs.Stores.{nothing}
-use Rattle.panel.specs.Items.{given}
+use Rattle.octets.proofs.Stores.{_▹_, nothing}
 use Rattle.panel.specs.declared.gain_map.MaybeGainMap.{MaybeGainMap}
 use Rattle.gain_map.specs.Data.{gain-data-size}
 use Rattle.gain_map.proofs.payload.write_data.Statement.{statement}
 use Rattle.gain_map.proofs.payload.write_data.Tie as tie
 
-write-payloads-requires : tie.Need-write-payloads-requires
-write-payloads-requires c κs =
-    let start = c .before .before .before .before .before .before .before .before in
-    omega (arith, ap (λ (x : MaybeGainMap). gain-data-size x (start .args .sample .now) (start .args .xmp .now) (start .args .tmap .now)) (c .before .before .gain .given .1))
+put-requires : tie.Need-put-requires
+put-requires c κs =
+    let some = c .before .before in
+    let start = some .before .before .before .before .before .before in
+    omega (arith, ap (λ (x : MaybeGainMap). gain-data-size x (start .args .sample .now) (start .args .xmp .now) (start .args .tmap .now)) (some .gain .given .1))
+
+put-requires-2 : tie.Need-put-requires-2
+put-requires-2 c κs =
+    let some = c .before .before .before .before .before .before in
+    let start = some .before .before .before .before .before .before in
+    omega (arith, ap (λ (x : MaybeGainMap). gain-data-size x (start .args .sample .now) (start .args .xmp .now) (start .args .tmap .now)) (some .gain .given .1))
+
+put-part-requires : tie.Need-put-part-requires
+put-part-requires c κs =
+    let c2 = c .before .before .before in
+    let some = c2 .before .before .before .before .before .before .before in
+    let start = some .before .before .before .before .before .before in
+    omega (arith, ap (λ (x : MaybeGainMap). gain-data-size x (start .args .sample .now) (start .args .xmp .now) (start .args .tmap .now)) (some .gain .given .1))
 
 returns : tie.Need-returns
 returns c =
-    let c1 = c .before .before in
-    rw (c .before .before .before .before .before .gain .given .1) (c1 .write-payloads .ensures)
+    let c3 = c .before .before in
+    let c2 = c3 .before .before .before .before in
+    let c1 = c2 .before .before .before .before in
+    rw (c1 .before .before .before .gain .given .1) ((c1 .put .ensures) ▹ (c2 .put2 .ensures) ▹ (c3 .put-part .ensures))
 
 returns-2 : tie.Need-returns-2
 returns-2 c =
     rw (c .enum-told .given .1) nothing
 
 pub write-data-spec : {M : Type 1} → statement M
-write-data-spec = tie.close (tie.spec (λ c. search needs) write-payloads-requires (λ c. search needs) (λ c. search needs) returns returns-2)
+write-data-spec = tie.close (tie.spec (λ c. search needs) put-requires put-requires-2 put-part-requires (λ c. search needs) (λ c. search needs) returns returns-2)

@@ -1,8 +1,8 @@
 -- Three roles, and those that may be absent.
 use borrow.Author.Needs.{needs}
 use Rattle.octets.proofs.Stores.{_▹_}
-use Rattle.grid_lists.proofs.write_color_grid_list.Statement.{statement}
-use Rattle.grid_lists.proofs.write_color_grid_list.Tie as tie
+use Rattle.grid_lists.proofs.write_grid_list.Statement.{statement}
+use Rattle.grid_lists.proofs.write_grid_list.Tie as tie
 
 returns : tie.Need-returns
 returns c =
@@ -12,5 +12,5 @@ returns c =
     let c1 = c2 .before .before .before .before in
     (c1 .write-run .ensures) ▹ (c2 .write-run2 .ensures) ▹ (c3 .write-run3 .ensures) ▹ (c4 .write-option-list .ensures)
 
-pub write-color-grid-list-spec : {M : Type 1} → statement M
-write-color-grid-list-spec = tie.close (tie.spec (λ c κs. search needs) (λ c κs. search needs) (λ c κs. search needs) (λ c κs. search needs) (λ c. search needs) returns)
+pub write-grid-list-spec : {M : Type 1} → statement M
+write-grid-list-spec = tie.close (tie.spec (λ c κs. search needs) (λ c κs. search needs) (λ c κs. search needs) (λ c κs. search needs) (λ c. search needs) returns)

@@ -1,0 +1,25 @@
+-- Three bytes and one for each property, for each tile and for the grid.
+use borrow.Author.Needs.{needs}
+use native.Mathlib.Omega.{arith}
+use native.Mathlib.Nat.{mul-le-mul}
+use Prim.Native.Nat.{_+_, _≤_}
+use Rattle.places.proofs.associations.entries_size.Statement.{statement}
+use Rattle.places.proofs.associations.entries_size.Tie as tie
+
+mul-result : tie.Need-mul-result
+mul-result c =
+    let few : 3 + c .args .tile ≤ 9 = omega arith in
+    omega (arith, mul-le-mul few (c .pre .0))
+
+add-result-3 : tie.Need-add-result-3
+add-result-3 c =
+    let few : 3 + c .args .tile ≤ 9 = omega arith in
+    omega (arith, mul-le-mul few (c .pre .0))
+
+returns : tie.Need-returns
+returns c =
+    let few : 3 + c .args .tile ≤ 9 = omega arith in
+    (omega arith, omega (arith, mul-le-mul few (c .pre .0)))
+
+pub entries-size-spec : {M : Type 1} → statement M
+entries-size-spec = tie.close (tie.spec (λ c. search needs) (λ c. search needs) mul-result (λ c. search needs) (λ c. search needs) add-result-3 returns)
