@@ -1,6 +1,5 @@
 -- The number, judged by the kind's look-up.
 use borrow.Author.Needs.{needs}
-use native.Mathlib.Omega.{arith}
 use mathlib.Core.Path.{sym, _∙_}
 use Rattle.sheet_fields.proofs.Reading.{is-one, is-none}
 use Rattle.sheet_fields.proofs.Values.{within}
