@@ -144,6 +144,7 @@ unfolding optional
 stands of m n true on off p q x = rw (p, q, on) (goes-on _ x done)
 stands of m n false on off p q x = rw (p, q, off) done
 
+-- whether a part is there, as one of two
 pub part-either : (b : Bool) → part-if b ≡ cond b Present Absent
 part-either true = refl
 part-either false = refl

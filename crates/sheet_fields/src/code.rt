@@ -28,7 +28,7 @@ pub struct CicpRead {
     pub next: Cursor,
 }
 
-// The number in the next k bytes, which a value of this kind has for its code.
+// The number in the next k bytes, refused with 13 where no value of this kind has it for its code.
 pub fn read_code(sheet: &[u8], c: Cursor, k: usize, kind: CodeKind) -> NumberRead
     requires { ⌜ k ≤ 2 ⌝ }
     ensures { λ r. ⌜ Reads (now (sheet .entry)) c (code-number k (is-code kind)) (r .value) (r .next) ⌝ }
