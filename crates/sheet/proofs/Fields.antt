@@ -1,51 +1,21 @@
--- Laws of the fields of a sheet: the map, bytes by the sum of their lengths, and the end.
-use mathlib.Core.Path.{_≡_, refl, sym}
-use mathlib.Core.Bool.{true, false}
-use mathlib.Core.List.{List, [], _∷_}
-use Prim.Native.Nat.{ℕ, zero, suc}
-use native.Mathlib.Omega.{arith}
-use lib.ListN.{length, drop}
-use Rattle.sheet_fields.specs.Read.{stop, give}
-use Rattle.sheet_fields.specs.Fields.{bytes}
-use Rattle.sheet_fields.specs.Cursor.{from-at, Reads, refused-at}
+-- Laws of the fields of a sheet: bytes by the sum of their lengths, and an orientation that may be left out.
+use mathlib.Core.Path.{_≡_}
+use mathlib.Core.Bool.{Bool, true, false, cond}
+use mathlib.Core.List.{List}
+use Prim.Native.Nat.{ℕ}
+use Rattle.panel.specs.declared.metadata.Orientation.{Orientation}
+use Rattle.panel.specs.declared.metadata.Orientation.the-variants.{Normal}
+use Rattle.sheet_fields.specs.Fields.{bytes, optional}
+use Rattle.sheet_fields.specs.Codes.{orientation}
+use Rattle.sheet_fields.specs.Cursor.{Reads}
 use Rattle.sheet_fields.specs.declared.Cursor.{Cursor}
-use Rattle.sheet_fields.proofs.Reading.{done, met}
-use Rattle.sheet.specs.Map.{map-of, bad-map, judged}
-use Rattle.sheet.specs.Sheet.{end}
-use Rattle.sheet.specs.declared.map.Map.{Map}
-
--- ---- the map
-
-module _ (s : List ℕ) (c : Cursor) (bits : ℕ) {m : Map} (e : m ≡ map-of bits) where
-  pub bad : bad-map bits m ≡ true → Reads s c (judged bits) m (refused-at c 12)
-  unfolding judged
-  bad h = rw (sym e, h) (met 11 refl)
-
-  pub good : bad-map bits m ≡ false → Reads s c (judged bits) m c
-  unfolding judged
-  good h = rw (sym e, h) done
-
--- ---- bytes
+use Rattle.sheet_fields.proofs.Reading.{goes-on, done}
+use Rattle.sheet.specs.Sheet.{oriented}
 
 pub by-sum : {s : List ℕ} {c d : Cursor} {a : List ℕ} {m n : ℕ} → m ≡ n → Reads s c (bytes m) a d → Reads s c (bytes n) a d
 by-sum e h = rw e at h
 
--- ---- the end
-
-some-left : {A : Type 0} (a : A) (rest : List ℕ) → (length rest ≡ 0 → ⊥) → end a rest ≡ stop 14
-unfolding end
-some-left a [] n = absurd (n refl)
-some-left a (b ∷ rest) n = refl
-
-none-left : {A : Type 0} (a : A) (k : ℕ) (rest : List ℕ) → length rest ≡ 0 → from-at k rest (give a) ≡ from-at k rest (end a)
-unfolding end
-none-left a zero [] e = refl
-none-left a zero (b ∷ rest) e = absurd (omega arith)
-none-left a (suc k) rest e = refl
-
-module _ {A : Type 0} (s : List ℕ) (c : Cursor) (a : A) where
-  pub over : (length (drop (c .at) s) ≡ 0 → ⊥) → Reads s c (end a) a (refused-at c 14)
-  over n = met 13 (some-left a (drop (c .at) s) n)
-
-  pub finished : length (drop (c .at) s) ≡ 0 → Reads s c (end a) a c
-  finished e = record { same = none-left a (c .refusal) (drop (c .at) s) e }
+pub turned : {s : List ℕ} {c d e : Cursor} {o r : Orientation} (b : Bool) → r ≡ cond b o Normal → e ≡ cond b d c → Reads s c orientation o d → Reads s c (oriented b) r e
+unfolding oriented optional
+turned true p q h = rw (p, q) (goes-on _ (goes-on _ h done) done)
+turned false p q h = rw (p, q) (goes-on _ done done)

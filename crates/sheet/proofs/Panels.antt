@@ -15,7 +15,7 @@ use Rattle.sheet.specs.declared.SheetRead.{SheetRead}
 abbrev with-gain : Panel → Option Gain → Panel
 with-gain p g = record { dims = p .dims; depth = p .depth; tiles = p .tiles; alpha = p .alpha; colour = p .colour; metadata = p .metadata; gain = g }
 
-gain-alike : (s : List ℕ) (r : SheetRead) (cl al : List ℕ) (m : MaybeGainMap) → maybe-gain-said s m (r .gain) ≡ gain-of m (lent-said s r cl al)
+gain-alike : (s : List ℕ) (r : SheetRead) (cl al : List ℕ) (m : MaybeGainMap) → maybe-gain-said s (r .gain) m ≡ gain-of m (lent-said s r cl al)
 gain-alike s r cl al G.None = refl
 gain-alike s r cl al (G.Some g) = refl
 
@@ -27,7 +27,7 @@ pub sections : (s : List ℕ) (r : SheetRead) (color alpha : List ℕ) → recor
   alpha = pictures-of s (r .pictures) color alpha .alpha;
   colour = colour-of (r .panel .«color_meta») (span-of s (r .icc));
   metadata = metadata-of s (record { metadata = r .panel .metadata; exif = r .exif; next = r .next });
-  gain = maybe-gain-said s (r .panel .«gain_map») (r .gain);
+  gain = maybe-gain-said s (r .gain) (r .panel .«gain_map»);
 } ≡ panel-said s r color alpha
 unfolding panel-said panel-of
 sections s r color alpha = λ z. with-gain (panel-said s r color alpha) (gain-alike s r (take (r .pictures .«color_count») color) (take (r .pictures .«alpha_count») alpha) (r .panel .«gain_map») z)

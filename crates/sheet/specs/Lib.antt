@@ -1,4 +1,3 @@
-pub mod Map
 pub mod Sheet
 pub mod Said
 pub mod Answer

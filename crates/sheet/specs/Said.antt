@@ -35,8 +35,8 @@ metadata-of s r = record { orientation = r .metadata .orientation; light = light
 abbrev pub image-of : List ℕ → ImageRead → Gain
 image-of s r = record { config = span-of s (r .hvcc); sample = span-of s (r .sample); width = r .width; height = r .height; depth = r .«bit_depth»; cicp = r .cicp; xmp = span-of s (r .xmp); tone = none; alternate = none }
 
-abbrev pub gain-said : List ℕ → EncodedGainMap → GainSpans → Gain
-gain-said s g p =
+abbrev pub gain-said : List ℕ → GainSpans → EncodedGainMap → Gain
+gain-said s p g =
     record {
       config = span-of s (p .hvcc);
       sample = span-of s (p .sample);
@@ -49,9 +49,9 @@ gain-said s g p =
       alternate = alternate-of (g .«alternate_color») (span-of s (p .«alternate_icc»));
     }
 
-abbrev pub maybe-gain-said : List ℕ → MaybeGainMap → GainSpans → Option Gain
-maybe-gain-said s G.None p = none
-maybe-gain-said s (G.Some g) p = some (gain-said s g p)
+abbrev pub maybe-gain-said : List ℕ → GainSpans → MaybeGainMap → Option Gain
+maybe-gain-said s p G.None = none
+maybe-gain-said s p (G.Some g) = some (gain-said s p g)
 
 -- the byte parts of a sheet that is read
 abbrev pub lent-said : List ℕ → SheetRead → List ℕ → List ℕ → Lent

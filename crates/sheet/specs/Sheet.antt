@@ -1,33 +1,22 @@
 -- The panel sheet: the panel that a list of bytes says, or the first refusal in reading order.
 use mathlib.Core.Bool.{Bool, cond}
 use mathlib.Core.Option.{Option, none, Option·getD}
-use mathlib.Core.List.{List, [], _∷_}
+use mathlib.Core.List.{List}
 use Prim.Native.Nat.{ℕ, _*_}
 use lib.Dec.{ltb}
 use lib.ListN.{length}
 use Rattle.octets.specs.Numbers.{total}
 use Rattle.panel.specs.Panel.{Tiles, Colour, Metadata, Gain, Panel}
 use Rattle.panel.specs.Agreement.{filled}
-use Rattle.panel.specs.declared.GridDims.{GridDims}
 use Rattle.panel.specs.declared.metadata.ContentLightLevel.{ContentLightLevel}
 use Rattle.panel.specs.declared.metadata.Orientation.{Orientation}
 use Rattle.panel.specs.declared.metadata.Orientation.the-variants.{Normal}
-use Rattle.sheet_fields.specs.Read.{Reader, got, stop, give, _then_}
+use Rattle.sheet_fields.specs.Read.{Reader, stop, give, _then_}
 use Rattle.sheet_fields.specs.Fields.{bytes, number, string, lengths, optional}
 use Rattle.sheet_fields.specs.Codes.{depth, orientation, cicp}
-use Rattle.sheet.specs.Map.{map}
-use Rattle.sheet.specs.declared.map.Map.{Map}
-
--- cols and rows of 16 bits, four sizes of 32
-unfoldable pub dims : Reader GridDims
-dims =
-    number 2 then λ cols.
-    number 2 then λ rows.
-    number 4 then λ tile-w.
-    number 4 then λ tile-h.
-    number 4 then λ full-w.
-    number 4 then λ full-h.
-    give (record { cols = cols; rows = rows; «tile_w» = tile-w; «tile_h» = tile-h; «full_w» = full-w; «full_h» = full-h })
+use Rattle.sheet_frame.specs.Map.{map}
+use Rattle.sheet_frame.specs.Frame.{dims, end}
+use Rattle.sheet_frame.specs.declared.map.Map.{Map}
 
 -- the colour picture and the alpha picture
 pub record Pictures : Type 0 where
@@ -50,10 +39,11 @@ pictures n =
 
 -- ---- then only fields whose bit stands, lowest first
 
-unfoldable pub colour : Map → Reader Colour
-colour m =
-    optional (m .cicp) cicp then λ c.
-    optional (m .icc) string then λ icc.
+-- code points, and a profile
+unfoldable pub colour : Bool → Bool → Reader Colour
+colour has-cicp has-icc =
+    optional has-cicp cicp then λ c.
+    optional has-icc string then λ icc.
     give (record { cicp = c; icc = icc })
 
 -- Normal if its bit is off
@@ -87,10 +77,7 @@ image =
 
 -- an alternate colour is there if one of its two fields is
 unfoldable pub alternate : Map → Reader (Option Colour)
-alternate m =
-    optional (m .«alternate_cicp») cicp then λ c.
-    optional (m .«alternate_icc») string then λ icc.
-    give (filled c icc)
+alternate m = colour (m .«alternate_cicp») (m .«alternate_icc») then λ c. give (filled (c .cicp) (c .icc))
 
 abbrev pub toned : Gain → Option (List ℕ) → Option Colour → Gain
 toned g tone other = record { config = g .config; sample = g .sample; width = g .width; height = g .height; depth = g .depth; cicp = g .cicp; xmp = g .xmp; tone = tone; alternate = other }
@@ -104,18 +91,13 @@ gain m =
 
 -- ---- the sheet
 
--- 14 where bytes are left over
-unfoldable pub end : {A : Type 0} → A → Reader A
-end a [] = got a []
-end a (b ∷ rest) = stop 14
-
 unfoldable pub fields : Reader Panel
 fields =
     map then λ m.
     dims then λ d.
     depth then λ k.
     pictures (d .rows * d .cols) then λ p.
-    colour m then λ c.
+    colour (m .cicp) (m .icc) then λ c.
     metadata m then λ x.
     optional (m .«gain_map») (gain m) then λ g.
     end (record { dims = d; depth = k; tiles = p .colour; alpha = p .alpha; colour = c; metadata = x; gain = g })

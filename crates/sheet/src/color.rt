@@ -1,22 +1,24 @@
 // The colour of the picture, and the alternate colour of a tone map.
 ghost use mathlib.Core.Path.{_≡_};
+ghost use mathlib.Core.Bool.{cond};
 ghost use mathlib.Core.List.{List};
 ghost use Prim.Native.Nat.{ℕ};
 ghost use Rattle.panel.specs.Of.{part, cicp-of, colour-of, alternate-of};
 ghost use Rattle.panel.specs.Agreement.{filled};
 ghost use Rattle.sheet_fields.specs.Cursor.{span-of, Reads};
 ghost use Rattle.sheet.specs.Sheet.{colour, alternate};
-use crate::map::Map;
 use panel::color::ColorMetadata;
 use panel::color::MaybeCicp;
 use panel::color::MaybeColorMetadata;
 use panel::color::Part;
 use sheet_fields::Cursor;
 use sheet_fields::Span;
-use sheet_fields::optional::read_maybe_cicp;
+use sheet_fields::code::read_cicp;
+use sheet_fields::optional::behind;
 use sheet_fields::optional::read_part;
+use sheet_frame::map::Map;
 
-// How the picture states its colour, where its profile lies, and the cursor behind both.
+// A colour as it is stated, where its profile lies, and the cursor behind both.
 pub struct ColorRead {
     pub color: ColorMetadata,
     pub icc: Span,
@@ -30,18 +32,32 @@ pub struct AlternateRead {
     pub next: Cursor,
 }
 
-// The colour of the picture: each of its two fields if its bit stands.
-pub fn read_color(sheet: &[u8], c: Cursor, m: Map) -> ColorRead
-    ensures { λ r. ⌜ Reads (now (sheet .entry)) c (colour m) (colour-of (r .color) (span-of (now (sheet .entry)) (r .icc))) (r .next) ⌝ }
+// Code points, or none if their bit is off.
+fn cicp_if(stands: bool, cicp: MaybeCicp) -> MaybeCicp
+    ensures { λ r. ⌜ r ≡ cond stands cicp MaybeCicp.None ⌝ }
 {
-    let a = read_maybe_cicp(sheet, c, m.cicp);
-    let b = read_part(sheet, a.next, m.icc);
-    let cicp = a.cicp;
-    let icc = b.part;
+    if stands {
+        return cicp;
+    }
+    MaybeCicp::None
+}
+
+// A colour: code points and a profile, each if its bit stands.
+pub fn read_color(sheet: &[u8], c: Cursor, cicp: bool, icc: bool) -> ColorRead
+    ensures { λ r. ⌜ Reads (now (sheet .entry)) c (colour cicp icc) (colour-of (r .color) (span-of (now (sheet .entry)) (r .icc))) (r .next) ⌝ }
+{
+    let a = read_cicp(sheet, c);
+    let read = a.cicp;
+    let points = cicp_if(cicp, MaybeCicp::Some(read));
+    let b = read_part(sheet, behind(cicp, c, a.next), icc);
+    let profile = b.part;
     let span = b.span;
     let next = b.next;
     ColorRead {
-        color: ColorMetadata { cicp, icc },
+        color: ColorMetadata {
+            cicp: points,
+            icc: profile,
+        },
         icc: span,
         next,
     }
@@ -73,20 +89,16 @@ fn alternate_of(cicp: MaybeCicp, icc: Part) -> MaybeColorMetadata
     }
 }
 
-// The alternate colour of a tone map: each of its two fields if its bit stands.
+// The alternate colour of a tone map.
 pub fn read_alternate(sheet: &[u8], c: Cursor, m: Map) -> AlternateRead
     ensures { λ r. ⌜ Reads (now (sheet .entry)) c (alternate m) (alternate-of (r .color) (span-of (now (sheet .entry)) (r .icc))) (r .next) ⌝ }
 {
-    let a = read_maybe_cicp(sheet, c, m.alternate_cicp);
-    let b = read_part(sheet, a.next, m.alternate_icc);
-    let cicp = a.cicp;
-    let icc = b.part;
-    let span = b.span;
-    let next = b.next;
-    let color = alternate_of(cicp, icc);
-    AlternateRead {
-        color,
-        icc: span,
-        next,
-    }
+    let x = read_color(sheet, c, m.alternate_cicp, m.alternate_icc);
+    let stated = x.color;
+    let cicp = stated.cicp;
+    let profile = stated.icc;
+    let icc = x.icc;
+    let next = x.next;
+    let color = alternate_of(cicp, profile);
+    AlternateRead { color, icc, next }
 }

@@ -1,10 +1,11 @@
 // The gain map, with its tone map and its alternate colour.
+ghost use mathlib.Core.Path.{_≡_};
+ghost use mathlib.Core.Bool.{cond};
 ghost use Rattle.sheet_fields.specs.Fields.{optional};
 ghost use Rattle.sheet_fields.specs.Cursor.{Reads};
 ghost use Rattle.sheet.specs.Sheet.{image, gain};
-ghost use Rattle.sheet.specs.Said.{image-of, gain-said, maybe-gain-said};
+ghost use Rattle.sheet.specs.Said.{image-of, maybe-gain-said};
 use crate::color::read_alternate;
-use crate::map::Map;
 use panel::color::Cicp;
 use panel::fmt::BitDepth;
 use panel::gain_map::EncodedGainMap;
@@ -13,9 +14,11 @@ use sheet_fields::Cursor;
 use sheet_fields::Span;
 use sheet_fields::code::read_cicp;
 use sheet_fields::code::read_depth;
+use sheet_fields::optional::behind;
 use sheet_fields::optional::read_part;
 use sheet_fields::read_number;
 use sheet_fields::read_string;
+use sheet_frame::map::Map;
 
 // The gain map's own fields, and the cursor behind them.
 pub struct ImageRead {
@@ -38,15 +41,8 @@ pub struct GainSpans {
     pub alternate_icc: Span,
 }
 
-// A gain map, where its byte parts lie, and the cursor behind it.
-pub struct GainRead {
-    pub gain: EncodedGainMap,
-    pub spans: GainSpans,
-    pub next: Cursor,
-}
-
 // A gain map, present or not, where its byte parts lie, and the cursor behind it.
-pub struct MaybeGainRead {
+pub struct GainRead {
     pub gain: MaybeGainMap,
     pub spans: GainSpans,
     pub next: Cursor,
@@ -81,14 +77,25 @@ fn read_image(sheet: &[u8], c: Cursor) -> ImageRead
     }
 }
 
-// The gain map, with its tone map and its alternate colour if their bits stand.
+// A gain map, or none if its bit is off.
+fn gain_if(stands: bool, gain: MaybeGainMap) -> MaybeGainMap
+    ensures { λ r. ⌜ r ≡ cond stands gain MaybeGainMap.None ⌝ }
+{
+    if stands {
+        return gain;
+    }
+    MaybeGainMap::None
+}
+
+// The gain map, if its bit stands, with its tone map and its alternate colour if theirs do.
 // Above 40 lines by its fields, one to a line.
-fn read_gain(sheet: &[u8], c: Cursor, m: Map) -> GainRead
-    ensures { λ r. ⌜ Reads (now (sheet .entry)) c (gain m) (gain-said (now (sheet .entry)) (r .gain) (r .spans)) (r .next) ⌝ }
+pub fn read_gain(sheet: &[u8], c: Cursor, m: Map) -> GainRead
+    ensures { λ r. ⌜ Reads (now (sheet .entry)) c (optional (m .«gain_map») (gain m)) (maybe-gain-said (now (sheet .entry)) (r .spans) (r .gain)) (r .next) ⌝ }
 {
     let i = read_image(sheet, c);
     let t = read_part(sheet, i.next, m.tmap);
     let a = read_alternate(sheet, t.next, m);
+    let next = behind(m.gain_map, c, a.next);
     let bit_depth = i.bit_depth;
     let cicp = i.cicp;
     let hvcc = i.hvcc;
@@ -98,16 +105,17 @@ fn read_gain(sheet: &[u8], c: Cursor, m: Map) -> GainRead
     let tone = t.span;
     let alternate_color = a.color;
     let alternate_icc = a.icc;
-    let next = a.next;
+    let encoded = EncodedGainMap {
+        width: i.width,
+        height: i.height,
+        bit_depth,
+        cicp,
+        tmap: present,
+        alternate_color,
+    };
+    let gain = gain_if(m.gain_map, MaybeGainMap::Some(encoded));
     GainRead {
-        gain: EncodedGainMap {
-            width: i.width,
-            height: i.height,
-            bit_depth,
-            cicp,
-            tmap: present,
-            alternate_color,
-        },
+        gain,
         spans: GainSpans {
             hvcc,
             sample,
@@ -115,41 +123,6 @@ fn read_gain(sheet: &[u8], c: Cursor, m: Map) -> GainRead
             tmap: tone,
             alternate_icc,
         },
-        next,
-    }
-}
-
-// Spans of no bytes.
-fn no_spans() -> GainSpans {
-    let none = Span { at: 0, size: 0 };
-    GainSpans {
-        hvcc: none,
-        sample: none,
-        xmp: none,
-        tmap: none,
-        alternate_icc: none,
-    }
-}
-
-// The gain map, if its bit stands.
-pub fn read_maybe_gain(sheet: &[u8], c: Cursor, m: Map) -> MaybeGainRead
-    ensures { λ r. ⌜ Reads (now (sheet .entry)) c (optional (m .«gain_map») (gain m)) (maybe-gain-said (now (sheet .entry)) (r .gain) (r .spans)) (r .next) ⌝ }
-{
-    if !m.gain_map {
-        let spans = no_spans();
-        return MaybeGainRead {
-            gain: MaybeGainMap::None,
-            spans,
-            next: c,
-        };
-    }
-    let g = read_gain(sheet, c, m);
-    let gain = g.gain;
-    let spans = g.spans;
-    let next = g.next;
-    MaybeGainRead {
-        gain: MaybeGainMap::Some(gain),
-        spans,
         next,
     }
 }

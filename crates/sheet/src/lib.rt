@@ -1,32 +1,29 @@
-// The panel sheet: a panel as one run of bytes. specs/ holds the definition of what a sheet says, field by field (Sheet, Map); here it is
+// The panel sheet: a panel as one run of bytes. specs/ holds the definition of what a sheet says, field by field (Sheet); here it is
 // read, numbers by value and byte parts as spans.
 
 pub mod color;
 pub mod gain;
-pub mod map;
 pub mod metadata;
 pub mod picture;
 
 ghost use Prim.Native.Nat.{_*_, _≤_};
 ghost use lib.ListN.{length};
-ghost use Rattle.panel.specs.Panel.{Panel as PurePanel};
 ghost use Rattle.sheet_fields.specs.Cursor.{Reads};
-ghost use Rattle.sheet.specs.Sheet.{end, fields};
+ghost use Rattle.sheet.specs.Sheet.{fields};
 ghost use Rattle.sheet.specs.Said.{start, panel-said};
 use crate::color::read_color;
 use crate::gain::GainSpans;
-use crate::gain::read_maybe_gain;
-use crate::map::read_map;
+use crate::gain::read_gain;
 use crate::metadata::read_metadata;
 use crate::picture::PictureSpans;
-use crate::picture::read_dims;
 use crate::picture::read_pictures;
 use panel::Panel;
 use sheet_fields::Cursor;
 use sheet_fields::Span;
 use sheet_fields::code::read_depth;
-use sheet_fields::left;
-use sheet_fields::refused;
+use sheet_frame::at_end;
+use sheet_frame::map::read_map;
+use sheet_frame::read_dims;
 
 // The numbers of a panel, where its byte parts lie, and the cursor behind all fields.
 pub struct SheetRead {
@@ -36,17 +33,6 @@ pub struct SheetRead {
     pub exif: Span,
     pub gain: GainSpans,
     pub next: Cursor,
-}
-
-// The cursor at the end of the fields: refused where bytes are left over.
-fn at_end(sheet: &[u8], c: Cursor) -> Cursor
-    ensures { λ r. ⌜ ((p : PurePanel) → Reads (now (sheet .entry)) c (end p) p r) ⌝ }
-{
-    let at = c.at;
-    if left(sheet, at) != 0 {
-        return refused(c, 14);
-    }
-    c
 }
 
 // All fields of a sheet. The lengths go to two lists that have an entry for every four bytes of the sheet.
@@ -64,9 +50,9 @@ pub fn read_sheet(sheet: &[u8], color: &mut [u32], alpha: &mut [u32]) -> SheetRe
     let dims = d.dims;
     let k = read_depth(sheet, d.next);
     let p = read_pictures(sheet, k.next, dims.rows * dims.cols, color, alpha);
-    let c = read_color(sheet, p.next, map);
+    let c = read_color(sheet, p.next, map.cicp, map.icc);
     let x = read_metadata(sheet, c.next, map);
-    let g = read_maybe_gain(sheet, x.next, map);
+    let g = read_gain(sheet, x.next, map);
     let next = at_end(sheet, g.next);
     let bit_depth = k.depth;
     let pictures = p.spans;

@@ -1,29 +1,33 @@
 // Orientation, light level and Exif.
+ghost use mathlib.Core.Path.{_≡_};
+ghost use mathlib.Core.Bool.{cond};
 ghost use Rattle.panel.specs.Of.{light-of};
 ghost use Rattle.sheet_fields.specs.Fields.{optional};
 ghost use Rattle.sheet_fields.specs.Cursor.{Reads};
 ghost use Rattle.sheet.specs.Sheet.{oriented, light, metadata};
 ghost use Rattle.sheet.specs.Said.{metadata-of};
-use crate::map::Map;
+use codes::CodeKind;
+use codes::orientation_named;
 use panel::metadata::ContentLightLevel;
 use panel::metadata::MaybeLightLevel;
 use panel::metadata::Metadata;
 use panel::metadata::Orientation;
 use sheet_fields::Cursor;
 use sheet_fields::Span;
-use sheet_fields::code::OrientationRead;
-use sheet_fields::code::read_orientation;
+use sheet_fields::code::read_code;
+use sheet_fields::optional::behind;
 use sheet_fields::optional::read_part;
 use sheet_fields::read_number;
+use sheet_frame::map::Map;
 
-// A light level, and the cursor behind it.
-pub struct LightRead {
-    pub light: ContentLightLevel,
+// An orientation, and the cursor behind it.
+pub struct OrientationRead {
+    pub orientation: Orientation,
     pub next: Cursor,
 }
 
 // A light level, present or not, and the cursor behind it.
-pub struct MaybeLightRead {
+pub struct LightRead {
     pub light: MaybeLightLevel,
     pub next: Cursor,
 }
@@ -35,52 +39,50 @@ pub struct MetadataRead {
     pub next: Cursor,
 }
 
+// An orientation, or Normal if its bit is off.
+fn orientation_if(stands: bool, orientation: Orientation) -> Orientation
+    ensures { λ r. ⌜ r ≡ cond stands orientation Orientation.Normal ⌝ }
+{
+    if stands {
+        return orientation;
+    }
+    Orientation::Normal
+}
+
 // The orientation: Normal if its bit is off.
 fn read_oriented(sheet: &[u8], c: Cursor, stands: bool) -> OrientationRead
     ensures { λ r. ⌜ Reads (now (sheet .entry)) c (oriented stands) (r .orientation) (r .next) ⌝ }
 {
-    if !stands {
-        return OrientationRead {
-            orientation: Orientation::Normal,
-            next: c,
-        };
-    }
-    read_orientation(sheet, c)
+    let n = read_code(sheet, c, 1, CodeKind::Orientation);
+    let named = orientation_named(n.value as u16).or_normal();
+    let orientation = orientation_if(stands, named);
+    let next = behind(stands, c, n.next);
+    OrientationRead { orientation, next }
 }
 
-// The light level: two numbers of 16 bits.
-fn read_light(sheet: &[u8], c: Cursor) -> LightRead
-    ensures { λ r. ⌜ Reads (now (sheet .entry)) c light (r .light) (r .next) ⌝ }
+// A light level, or none if its bit is off.
+fn light_if(stands: bool, light: MaybeLightLevel) -> MaybeLightLevel
+    ensures { λ r. ⌜ r ≡ cond stands light MaybeLightLevel.None ⌝ }
+{
+    if stands {
+        return light;
+    }
+    MaybeLightLevel::None
+}
+
+// The light level, if its bit stands: two numbers of 16 bits.
+fn read_light(sheet: &[u8], c: Cursor, stands: bool) -> LightRead
+    ensures { λ r. ⌜ Reads (now (sheet .entry)) c (optional stands light) (light-of (r .light)) (r .next) ⌝ }
 {
     let most = read_number(sheet, c, 2);
     let average = read_number(sheet, most.next, 2);
-    let next = average.next;
-    LightRead {
-        light: ContentLightLevel {
-            max_content_light_level: most.value as u16,
-            max_pic_average_light_level: average.value as u16,
-        },
-        next,
-    }
-}
-
-// The light level, if its bit stands.
-fn read_maybe_light(sheet: &[u8], c: Cursor, stands: bool) -> MaybeLightRead
-    ensures { λ r. ⌜ Reads (now (sheet .entry)) c (optional stands light) (light-of (r .light)) (r .next) ⌝ }
-{
-    if !stands {
-        return MaybeLightRead {
-            light: MaybeLightLevel::None,
-            next: c,
-        };
-    }
-    let x = read_light(sheet, c);
-    let light = x.light;
-    let next = x.next;
-    MaybeLightRead {
-        light: MaybeLightLevel::Some(light),
-        next,
-    }
+    let next = behind(stands, c, average.next);
+    let levels = ContentLightLevel {
+        max_content_light_level: most.value as u16,
+        max_pic_average_light_level: average.value as u16,
+    };
+    let light = light_if(stands, MaybeLightLevel::Some(levels));
+    LightRead { light, next }
 }
 
 // Orientation, light level and Exif, each if its bit stands.
@@ -88,7 +90,7 @@ pub fn read_metadata(sheet: &[u8], c: Cursor, m: Map) -> MetadataRead
     ensures { λ r. ⌜ Reads (now (sheet .entry)) c (metadata m) (metadata-of (now (sheet .entry)) r) (r .next) ⌝ }
 {
     let o = read_oriented(sheet, c, m.orientation);
-    let l = read_maybe_light(sheet, o.next, m.light_level);
+    let l = read_light(sheet, o.next, m.light_level);
     let e = read_part(sheet, l.next, m.exif);
     let orientation = o.orientation;
     let content_light_level = l.light;

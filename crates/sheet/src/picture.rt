@@ -1,22 +1,14 @@
-// The fields that are always there: the grid, and both pictures with their records, lengths and bytes.
-ghost use Prim.Native.Nat.{_*_, _^_, _≤_, _<_};
+// Both pictures, with their records, lengths and bytes.
+ghost use Prim.Native.Nat.{_*_, _≤_};
 ghost use lib.ListN.{length};
 ghost use Rattle.sheet_fields.specs.Cursor.{Reads};
-ghost use Rattle.sheet.specs.Sheet.{dims, pictures};
+ghost use Rattle.sheet.specs.Sheet.{pictures};
 ghost use Rattle.sheet.specs.Said.{pictures-of};
-use panel::GridDims;
 use sheet_fields::Cursor;
 use sheet_fields::Span;
 use sheet_fields::read_bytes;
 use sheet_fields::read_lengths;
-use sheet_fields::read_number;
 use sheet_fields::read_string;
-
-// The grid, and the cursor behind it.
-pub struct DimsRead {
-    pub dims: GridDims,
-    pub next: Cursor,
-}
 
 // Where the parts of both pictures lie, and how many lengths each has.
 pub struct PictureSpans {
@@ -32,32 +24,6 @@ pub struct PictureSpans {
 pub struct PicturesRead {
     pub spans: PictureSpans,
     pub next: Cursor,
-}
-
-// Columns and rows in 16 bits, and four sizes in 32.
-pub fn read_dims(sheet: &[u8], c: Cursor) -> DimsRead
-    ensures { λ r. ⌜ Reads (now (sheet .entry)) c dims (r .dims) (r .next) ⌝ }
-    ensures { λ r. ⌜ r .dims .cols < 2 ^ 16 ⌝ }
-    ensures { λ r. ⌜ r .dims .rows < 2 ^ 16 ⌝ }
-{
-    let cols = read_number(sheet, c, 2);
-    let rows = read_number(sheet, cols.next, 2);
-    let tile_w = read_number(sheet, rows.next, 4);
-    let tile_h = read_number(sheet, tile_w.next, 4);
-    let full_w = read_number(sheet, tile_h.next, 4);
-    let full_h = read_number(sheet, full_w.next, 4);
-    let next = full_h.next;
-    DimsRead {
-        dims: GridDims {
-            cols: cols.value,
-            rows: rows.value,
-            tile_w: tile_w.value,
-            tile_h: tile_h.value,
-            full_w: full_w.value,
-            full_h: full_h.value,
-        },
-        next,
-    }
 }
 
 // Both records, n lengths for each picture, and bytes for the sum of the lengths.

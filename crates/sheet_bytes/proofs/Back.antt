@@ -16,8 +16,9 @@ use Rattle.panel.specs.declared.metadata.ContentLightLevel.{ContentLightLevel}
 use Rattle.sheet_fields.specs.Read.{got, stop}
 use Rattle.sheet_fields.specs.Fields.{string, optional}
 use Rattle.sheet_fields.specs.Codes.{orientation, cicp}
-use Rattle.sheet.specs.Sheet.{Pictures, dims, pictures, colour, oriented, light, metadata, image, alternate, gain, fields, sheet}
-use Rattle.sheet.specs.declared.map.Map.{Map}
+use Rattle.sheet_frame.specs.Frame.{dims}
+use Rattle.sheet_frame.specs.declared.map.Map.{Map}
+use Rattle.sheet.specs.Sheet.{Pictures, pictures, colour, oriented, light, metadata, image, alternate, gain, fields, sheet}
 use Rattle.sheet_bytes.specs.Bytes.{string-bytes, cicp-bytes, optional-bytes, dims-bytes, pictures-bytes, colour-bytes, turned, orientation-bytes, light-bytes, metadata-bytes, image-bytes, cicp-in, icc-in, alternate-in, alternate-bytes, gain-bytes, present, pictures-in, sheet-bytes}
 use Rattle.sheet_bytes.specs.Sayable.{Tiled, Shown, Sayable}
 use Rattle.sheet_bytes.proofs.Says.{Says, Ends, and-then, closes, as-well, off-bytes, off-number, off-string, off-lengths, off-optional, and-ends, last-ends}
@@ -51,9 +52,9 @@ off-pictures n p c a hc ha =
 
 -- ---- fields that may be left out
 
-off-colour : (p : Panel) → Says (colour (present p)) (colour-bytes (p .colour)) (p .colour)
+off-colour : (c : Colour) → Says (colour (has (c .cicp)) (has (c .icc))) (colour-bytes c) c
 unfolding colour
-off-colour p = and-then _ (off-cicps (p .colour .cicp)) (closes _ (off-strings (p .colour .icc)) refl)
+off-colour c = and-then _ (off-cicps (c .cicp)) (closes _ (off-strings (c .icc)) refl)
 
 off-light : (l : ContentLightLevel) → Light-fits l → Says light (light-bytes l) l
 unfolding light
@@ -93,7 +94,7 @@ filled-back (some t) (some c) e = e
 module _ (m : Map) where
   off-alternate : (a : Option Colour) → m .«alternate_cicp» ≡ has (cicp-in a) → m .«alternate_icc» ≡ has (icc-in a) → Says (alternate m) (alternate-bytes a) (filled (cicp-in a) (icc-in a))
   unfolding alternate
-  off-alternate a e f = rw (e, f) (and-then _ (off-cicps (cicp-in a)) (closes _ (off-strings (icc-in a)) refl))
+  off-alternate a e f = rw (e, f) (closes _ (off-colour (record { cicp = cicp-in a; icc = icc-in a })) refl)
 
   off-tone : (o : Option (List ℕ)) → m .tmap ≡ has o → Says (optional (m .tmap) string) (optional-bytes string-bytes o) o
   off-tone o e = rw e (off-strings o)
@@ -133,7 +134,7 @@ module _ (p : Panel) (h : Sayable p) where
       (and-ends _ off-dims
       (and-ends _ (off-depth (p .depth))
       (and-ends _ (off-pictures (p .dims .rows * p .dims .cols) (pictures-in p) (h .colour) (h .alpha) (let b = bytes-short in omega (arith, h .colour .sum)) (let b = bytes-short in omega (arith, h .alpha .sum)))
-      (and-ends _ (off-colour p)
+      (and-ends _ (off-colour (p .colour))
       (and-ends _ (off-metadata p (h .fits .light))
       (last-ends _ (off-optional (gain (present p)) gain-bytes (p .gain) (off-gains (present p) (p .gain) refl refl refl (h .fits .gain) (h .alternate)))))))))
 

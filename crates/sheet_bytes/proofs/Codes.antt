@@ -4,7 +4,7 @@ use mathlib.Core.Bool.{Bool, true, false}
 use mathlib.Core.Option.{some, Option·getD}
 use Rattle.octets.specs.Numbers.{be, value}
 use Rattle.panel.specs.Types.{primaries-code, transfer-code, matrix-code}
-use Rattle.panel.specs.Codes.{named, every-primaries, every-transfer, every-matrix}
+use Rattle.panel.specs.Codes.{primaries-named, transfer-named, matrix-named}
 use Rattle.panel.specs.declared.color.Primaries.{Primaries}
 use Rattle.panel.specs.declared.color.Primaries.the-variants as P
 use Rattle.panel.specs.declared.color.TransferFunction.{TransferFunction}
@@ -60,8 +60,7 @@ unfolding every-bool
 range-back false = refl
 range-back true = refl
 
-primaries-back : (a : Primaries) → named primaries-code every-primaries (value (be 2 (primaries-code a))) ≡ some a
-unfolding every-primaries
+primaries-back : (a : Primaries) → primaries-named (value (be 2 (primaries-code a))) ≡ some a
 primaries-back P.Reserved = refl
 primaries-back P.Bt709 = refl
 primaries-back P.Unspecified = refl
@@ -76,8 +75,7 @@ primaries-back P.Smpte431 = refl
 primaries-back P.Smpte432 = refl
 primaries-back P.Ebu3213 = refl
 
-transfer-back : (a : TransferFunction) → named transfer-code every-transfer (value (be 2 (transfer-code a))) ≡ some a
-unfolding every-transfer
+transfer-back : (a : TransferFunction) → transfer-named (value (be 2 (transfer-code a))) ≡ some a
 transfer-back T.Reserved = refl
 transfer-back T.Bt709 = refl
 transfer-back T.Unspecified = refl
@@ -97,8 +95,7 @@ transfer-back T.Smpte2084 = refl
 transfer-back T.Smpte428 = refl
 transfer-back T.Hlg = refl
 
-matrix-back : (a : MatrixCoefficients) → named matrix-code every-matrix (value (be 2 (matrix-code a))) ≡ some a
-unfolding every-matrix
+matrix-back : (a : MatrixCoefficients) → matrix-named (value (be 2 (matrix-code a))) ≡ some a
 matrix-back M.Identity = refl
 matrix-back M.Bt709 = refl
 matrix-back M.Unspecified = refl
@@ -121,7 +118,7 @@ matrix-back M.YCgCoRo = refl
 pub off-cicp : (c : Cicp) → Says cicp (cicp-bytes c) c
 unfolding cicp
 off-cicp c =
-    and-then _ (off-code 2 (primaries-code (c .primaries)) (named primaries-code every-primaries) (primaries-back (c .primaries)))
-    (and-then _ (off-code 2 (transfer-code (c .transfer)) (named transfer-code every-transfer) (transfer-back (c .transfer)))
-    (and-then _ (off-code 2 (matrix-code (c .matrix)) (named matrix-code every-matrix) (matrix-back (c .matrix)))
+    and-then _ (off-code 2 (primaries-code (c .primaries)) primaries-named (primaries-back (c .primaries)))
+    (and-then _ (off-code 2 (transfer-code (c .transfer)) transfer-named (transfer-back (c .transfer)))
+    (and-then _ (off-code 2 (matrix-code (c .matrix)) matrix-named (matrix-back (c .matrix)))
     (closes _ (off-code 1 (bool-code (c .«full_range»)) yes-no (range-back (c .«full_range»))) refl)))

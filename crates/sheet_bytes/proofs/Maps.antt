@@ -14,8 +14,8 @@ use Rattle.panel.specs.Items.{has, tone-of}
 use Rattle.panel.specs.Agreement.{shown}
 use Rattle.panel.specs.Widths.{Of}
 use Rattle.sheet_fields.specs.Read.{give, refuse}
-use Rattle.sheet.specs.Map.{map-of, without, bad-map, judged, map}
-use Rattle.sheet.specs.declared.map.Map.{Map}
+use Rattle.sheet_frame.specs.Map.{map-of, without, bad-map, judged, map}
+use Rattle.sheet_frame.specs.declared.map.Map.{Map}
 use Rattle.sheet_bytes.specs.Bytes.{cicp-in, icc-in, alternate-in, weight, bits-of, present}
 use Rattle.sheet_bytes.specs.Sayable.{Shown}
 use Rattle.sheet_bytes.proofs.Says.{Says, closes, off-number}

@@ -15,7 +15,7 @@ use Rattle.panel.specs.Items.{has}
 use Rattle.panel.specs.Widths.{Of}
 use Rattle.sheet_fields.specs.Read.{Reader, got, stop, give, onward, _then_}
 use Rattle.sheet_fields.specs.Fields.{bytes, number, string, words, lengths, known, coded, optional}
-use Rattle.sheet.specs.Sheet.{end}
+use Rattle.sheet_frame.specs.Frame.{end}
 use Rattle.sheet_bytes.specs.Bytes.{string-bytes, optional-bytes, lengths-bytes}
 
 -- f reads a off x, which is not longer than a length of 32 bits can say

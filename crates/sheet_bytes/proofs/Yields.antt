@@ -18,9 +18,10 @@ use Rattle.panel.specs.declared.color.Cicp.{Cicp}
 use Rattle.sheet_fields.specs.Read.{Read, Reader, got, stop, give, onward, _then_}
 use Rattle.sheet_fields.specs.Fields.{bytes, number, string, words, lengths, known, coded, optional}
 use Rattle.sheet_fields.specs.Codes.{cicp}
-use Rattle.sheet.specs.Map.{map-of, bad-map, judged, map}
-use Rattle.sheet.specs.Sheet.{Pictures, dims, pictures, colour, oriented, light, metadata, image, alternate, gain, end, fields}
-use Rattle.sheet.specs.declared.map.Map.{Map}
+use Rattle.sheet_frame.specs.Map.{map-of, bad-map, judged, map}
+use Rattle.sheet_frame.specs.Frame.{dims, end}
+use Rattle.sheet_frame.specs.declared.map.Map.{Map}
+use Rattle.sheet.specs.Sheet.{Pictures, pictures, colour, oriented, light, metadata, image, alternate, gain, fields}
 use Rattle.sheet_bytes.specs.Sayable.{Tiled}
 
 abbrev pub Short : List ℕ → Type 0
@@ -158,9 +159,9 @@ both-pictures n =
 pub record Short-colour (c : Colour) : Type 0 where
   pub icc : Of Short (c .icc)
 
-a-colour : (m : Map) → Yields (colour m) Short-colour
+a-colour : (has-cicp has-icc : Bool) → Yields (colour has-cicp has-icc) Short-colour
 unfolding colour
-a-colour m = seq _ (maybe (m .cicp) a-cicp) (λ c h. seq _ (maybe (m .icc) a-string) (λ i hi. gives (record { icc = hi })))
+a-colour has-cicp has-icc = seq _ (maybe has-cicp a-cicp) (λ c h. seq _ (maybe has-icc a-string) (λ i hi. gives (record { icc = hi })))
 
 pub record Short-metadata (m : Metadata) : Type 0 where
   pub exif : Of Short (m .exif)
@@ -197,7 +198,7 @@ short-filled none none h = tt
 
 an-alternate : (m : Map) → Yields (alternate m) (Of Short-colour)
 unfolding alternate
-an-alternate m = seq _ (maybe (m .«alternate_cicp») a-cicp) (λ c h. seq _ (maybe (m .«alternate_icc») a-string) (λ i hi. gives (short-filled c i hi)))
+an-alternate m = seq _ (a-colour (m .«alternate_cicp») (m .«alternate_icc»)) (λ c h. gives (short-filled (c .cicp) (c .icc) (h .icc)))
 
 a-gain : (m : Map) → Yields (gain m) Short-gain
 unfolding gain
@@ -217,5 +218,5 @@ pub a-panel : Yields fields Bounded
 unfolding fields
 a-panel =
     seq _ a-map (λ m h. seq _ some-dims (λ d h. seq _ (a-code 1 _) (λ k h. seq _ (both-pictures (d .rows * d .cols)) (λ p hp.
-    seq _ (a-colour m) (λ c hc. seq _ (some-metadata m) (λ x hx. seq _ (maybe (m .«gain_map») (a-gain m)) (λ g hg.
+    seq _ (a-colour (m .cicp) (m .icc)) (λ c hc. seq _ (some-metadata m) (λ x hx. seq _ (maybe (m .«gain_map») (a-gain m)) (λ g hg.
     ended _ (record { pictures = hp; colour = hc; metadata = hx; gain = hg }))))))))

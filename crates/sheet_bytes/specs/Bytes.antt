@@ -14,8 +14,8 @@ use Rattle.panel.specs.declared.metadata.ContentLightLevel.{ContentLightLevel}
 use Rattle.panel.specs.declared.metadata.Orientation.{Orientation}
 use Rattle.panel.specs.declared.metadata.Orientation.the-variants.{Normal, FlipH, Rotate180, FlipV, Transpose, Rotate90, Transverse, Rotate270}
 use Rattle.codes.specs.Codes.{depth-code, orientation-code, bool-code}
+use Rattle.sheet_frame.specs.declared.map.Map.{Map}
 use Rattle.sheet.specs.Sheet.{Pictures}
-use Rattle.sheet.specs.declared.map.Map.{Map}
 
 abbrev pub string-bytes : List ℕ → List ℕ
 string-bytes x = be 4 (length x) ‖ x

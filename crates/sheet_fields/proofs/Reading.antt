@@ -1,7 +1,7 @@
 -- Laws of reading: one field after the other, what gives the same value, a refusal, and the bytes that are there or not.
 use mathlib.Core.Path.{_≡_, refl, sym, ap, _∙_}
 use mathlib.Core.Bool.{Bool, true, false, cond}
-use mathlib.Core.Option.{Option, none, some}
+use mathlib.Core.Option.{Option, none, some, Option·getD}
 use mathlib.Core.List.{List}
 use Prim.Native.Nat.{ℕ, zero, suc, _+_, _≤_, _<_}
 use borrow.Author.Tests.{lt-ltb, le-ltb}
@@ -9,8 +9,11 @@ use native.Mathlib.Nat.{min-le-left, min-le-right}
 use native.Mathlib.Omega.{arith}
 use lib.ListN.{length, take, drop, length-take, length-drop}
 use lib.Seq.{drop-drop}
-use Rattle.sheet_fields.specs.Read.{got, stop, Reader, give, onward, _then_}
-use Rattle.sheet_fields.specs.Fields.{bytes, known, optional}
+use Rattle.panel.specs.Items.{has}
+use Rattle.panel.specs.declared.color.Part.the-variants.{Absent, Present}
+use Rattle.codes.specs.Codes.{part-if}
+use Rattle.sheet_fields.specs.Read.{Read, got, stop, Reader, give, refuse, onward, _then_}
+use Rattle.sheet_fields.specs.Fields.{bytes, number, known, coded, code-number, optional}
 use Rattle.sheet_fields.specs.Cursor.{span-of, from-at, from, Reads, earlier, refused-at}
 use Rattle.sheet_fields.specs.declared.Cursor.{Cursor}
 use Rattle.sheet_fields.specs.declared.Span.{Span}
@@ -93,18 +96,55 @@ span-within s p = rw length-take (omega (arith, min-le-right (p .size) (length (
 
 -- ---- codes
 
-pub names : {A : Type 0} {s : List ℕ} {c : Cursor} (o : Option A) {a : A} → o ≡ some a → Reads s c (known o) a c
-names o e = rw e done
+-- a number that is a code, or that is none
+module _ {s : List ℕ} {c d : Cursor} (k : ℕ) (is-code : ℕ → Bool) {n : ℕ} (h : Reads s c (number k) n d) where
+  pub is-one : is-code n ≡ true → Reads s c (code-number k is-code) n d
+  unfolding code-number
+  is-one e = goes-on _ h (rw e done)
 
-pub nameless : {A : Type 0} {s : List ℕ} {c : Cursor} (o : Option A) {a : A} → o ≡ none → Reads s c (known o) a (refused-at c 13)
-nameless o e = rw e (met 12 refl)
+  pub is-none : is-code n ≡ false → Reads s c (code-number k is-code) n (refused-at d 13)
+  unfolding code-number
+  is-none e = goes-on _ h (rw e (met 12 refl))
+
+module _ {A B : Type 0} (g : A → Reader B) (h : ℕ → Reader B) where
+  judged : (n : ℕ) (rest : List ℕ) (b : Bool) (o : Option A) → b ≡ has o → ((a : A) → o ≡ some a → h n ≡ g a) → onward (cond b (give n) (refuse 13) rest) h ≡ onward (known o rest) g
+  judged n rest true (some a) e f = ap (λ r. r rest) (f a refl)
+  judged n rest false none e f = refl
+  judged n rest true none e f = absurd (let z : _≡_ {A = ℕ} 0 1 = cc in omega arith)
+  judged n rest false (some a) e f = absurd (let z : _≡_ {A = ℕ} 0 1 = cc in omega arith)
+
+  -- to go on by the number of a code is to go on by what it names
+  pub by-number : (k : ℕ) (is-code : ℕ → Bool) (named : ℕ → Option A) → ((n : ℕ) → is-code n ≡ has (named n)) → ((n : ℕ) (a : A) → named n ≡ some a → h n ≡ g a) → (code-number k is-code then h) ≡ (coded k named then g)
+  unfolding _then_ code-number coded
+  by-number k is-code named e f = λ i s. go (number k s) i
+    where
+      go : (r : Read ℕ) → onward (onward r (λ n. cond (is-code n) (give n) (refuse 13))) h ≡ onward (onward r (λ n. known (named n))) g
+      go (got n rest) = judged n rest (is-code n) (named n) (e n) (f n)
+      go (stop j) = refl
+
+then-give : {A : Type 0} (f : Reader A) → (f then give) ≡ f
+unfolding _then_
+then-give {A} f = λ i s. go (f s) i
+  where
+    go : (r : Read A) → onward r give ≡ r
+    go (got a rest) = refl
+    go (stop j) = refl
+
+-- a code by its number, with any value where it names none
+pub names : {A : Type 0} {s : List ℕ} {c d : Cursor} (k : ℕ) (is-code : ℕ → Bool) (named : ℕ → Option A) {n : ℕ} (x : A) → ((n : ℕ) → is-code n ≡ has (named n)) → Reads s c (code-number k is-code) n d → Reads s c (coded k named) (Option·getD (named n) x) d
+names k is-code named x e h =
+    rw (by-number give (λ n. give (Option·getD (named n) x)) k is-code named e (λ n a p. ap (λ o. give (Option·getD o x)) p) ∙ then-give (coded k named)) at (goes-on (λ n. give (Option·getD (named n) x)) h done)
 
 -- ---- fields that may be left out
 
-pub stands : {A : Type 0} {s : List ℕ} {c d : Cursor} {f : Reader A} {a : A} (b : Bool) → b ≡ true → Reads s c f a d → Reads s c (optional b f) (some a) d
+-- read in any case, and dropped where the bit is off: the code holds m or n, which stand for what was read and for nothing
+pub stands : {M A : Type 0} (of : M → Option A) (m n : M) {r : M} {s : List ℕ} {c d e : Cursor} {f : Reader A} {a : A} (b : Bool)
+    → of m ≡ some a → of n ≡ none → r ≡ cond b m n → e ≡ cond b d c → Reads s c f a d → Reads s c (optional b f) (of r) e
 unfolding optional
-stands b e x = rw e (goes-on _ x done)
+stands of m n true on off p q x = rw (p, q, on) (goes-on _ x done)
+stands of m n false on off p q x = rw (p, q, off) done
 
-pub left-out : {A : Type 0} {s : List ℕ} {c : Cursor} (f : Reader A) (b : Bool) → b ≡ false → Reads s c (optional b f) none c
-unfolding optional
-left-out f b e = rw e done
+-- whether a part is there, as one of two
+pub part-either : (b : Bool) → part-if b ≡ cond b Present Absent
+part-either true = refl
+part-either false = refl

@@ -1,7 +1,6 @@
 -- The fields of a sheet that are codes, and the four codes of a colour.
 use mathlib.Core.Bool.{Bool}
-use Rattle.panel.specs.Types.{primaries-code, transfer-code, matrix-code}
-use Rattle.panel.specs.Codes.{named, every-primaries, every-transfer, every-matrix}
+use Rattle.panel.specs.Codes.{primaries-named, transfer-named, matrix-named}
 use Rattle.panel.specs.declared.color.Primaries.{Primaries}
 use Rattle.panel.specs.declared.color.TransferFunction.{TransferFunction}
 use Rattle.panel.specs.declared.color.MatrixCoefficients.{MatrixCoefficients}
@@ -23,13 +22,13 @@ abbrev pub full-range : Reader Bool
 full-range = coded 1 yes-no
 
 abbrev pub primaries : Reader Primaries
-primaries = coded 2 (named primaries-code every-primaries)
+primaries = coded 2 primaries-named
 
 abbrev pub transfer : Reader TransferFunction
-transfer = coded 2 (named transfer-code every-transfer)
+transfer = coded 2 transfer-named
 
 abbrev pub matrix : Reader MatrixCoefficients
-matrix = coded 2 (named matrix-code every-matrix)
+matrix = coded 2 matrix-named
 
 -- three codes of 16 bits, then 0 or 1, each judged where it stands
 unfoldable pub cicp : Reader Cicp

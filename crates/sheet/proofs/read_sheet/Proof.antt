@@ -30,7 +30,7 @@ returns c =
           (goes-on _ (p .read-pictures .ensures .0)
           (goes-on _ (l .read-color .ensures)
           (goes-on _ (x .read-metadata .ensures)
-          (goes-on _ (g .read-maybe-gain .ensures) (e .at-end .ensures _)))))))),
+          (goes-on _ (g .read-gain .ensures) (e .at-end .ensures _)))))))),
       (p .read-pictures .ensures .1 .0, p .read-pictures .ensures .1 .1),
     )
 

@@ -1,4 +1,4 @@
--- The code points, the profile, and whether there is either.
+-- The colour, and whether it states anything.
 use borrow.Author.Needs.{needs}
 use mathlib.Core.Path.{sym}
 use Rattle.sheet.specs.Sheet.{alternate}
@@ -9,9 +9,8 @@ use Rattle.sheet.proofs.color.read_alternate.Tie as tie
 returns : tie.Need-returns
 unfolding alternate
 returns c =
-    let p = c .before .before .before in
-    let k = p .before in
-    goes-on _ (k .read-maybe-cicp .ensures) (goes-on _ (p .read-part .ensures) (as-well (sym (c .alternate-of .ensures _)) done))
+    let x = c .before .before .before .before in
+    goes-on _ (x .read-color .ensures) (as-well (sym (c .alternate-of .ensures _)) done)
 
 pub read-alternate-spec : {M : Type 1} → statement M
-read-alternate-spec = tie.close (tie.spec (λ c κs. search needs) (λ c κs. search needs) (λ c κs. search needs) returns)
+read-alternate-spec = tie.close (tie.spec (λ c κs. search needs) (λ c κs. search needs) returns)

@@ -11,7 +11,7 @@ returns c =
     let e = c .before .before in
     let l = e .before in
     let o = l .before in
-    goes-on _ (o .read-oriented .ensures) (goes-on _ (l .read-maybe-light .ensures) (goes-on _ (e .read-part .ensures) done))
+    goes-on _ (o .read-oriented .ensures) (goes-on _ (l .read-light .ensures) (goes-on _ (e .read-part .ensures) done))
 
 pub read-metadata-spec : {M : Type 1} → statement M
 read-metadata-spec = tie.close (tie.spec (λ c κs. search needs) (λ c κs. search needs) (λ c κs. search needs) returns)
