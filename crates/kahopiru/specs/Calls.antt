@@ -4,15 +4,9 @@ use mathlib.Core.List.{List}
 use Prim.Native.Nat.{ℕ}
 use Rattle.panel.specs.Of.{Lent, panel-of}
 use Rattle.panel.specs.Items.{ordinary}
-use Rattle.panel.specs.Answer.{Outcome, made, refused, length-answer, write-answer, after}
-use Rattle.kahopiru.specs.Numbers.{numbers-of}
-use Rattle.kahopiru.specs.declared.PanelCodes.{PanelCodes}
-use Rattle.kahopiru.specs.declared.Told.{Told}
-
--- 0 and the length, or the number of the refusal and 0
-abbrev pub told : Outcome → Told
-told (made n) = record { refusal = 0; length = n }
-told (refused k) = record { refusal = k; length = 0 }
+use Rattle.panel.specs.Answer.{Outcome, refused, length-answer, write-answer, after}
+use Rattle.numbers.specs.Numbers.{numbers-of}
+use Rattle.numbers.specs.declared.PanelCodes.{PanelCodes}
 
 -- of the length call: 13 where a code stands for nothing, before all checks
 unfoldable pub said-length : PanelCodes → Lent → Outcome

@@ -1,0 +1,12 @@
+-- Part by part, as the calls answer.
+use borrow.Author.Needs.{needs}
+use Rattle.numbers.specs.Values.{panel-value}
+use Rattle.numbers.proofs.values.panel_value.Statement.{statement}
+use Rattle.numbers.proofs.values.panel_value.Tie as tie
+
+returns : tie.Need-returns
+unfolding panel-value
+returns c = cc
+
+pub panel-value-spec : {M : Type 1} → statement M
+panel-value-spec = tie.close (tie.spec (λ c κs. search needs) (λ c. search needs) (λ c κs. search needs) (λ c κs. search needs) (λ c κs. search needs) (λ c κs. search needs) (λ c κs. search needs) (λ c κs. search needs) returns)

@@ -1,0 +1,139 @@
+// The numbers that codes stand for, part by part. A part is there where its byte is 1.
+ghost use mathlib.Core.Path.{_≡_};
+ghost use mathlib.Core.Bool.{cond};
+ghost use Rattle.numbers.specs.Values.{cicp-value, color-value, gain-value, metadata-value, dims-value, panel-value};
+use crate::CicpCodes;
+use crate::ColorCodes;
+use crate::GainCodes;
+use crate::PanelCodes;
+use codes::cicp_named;
+use codes::depth_named;
+use codes::or_unspecified;
+use codes::orientation_named;
+use codes::part_if;
+use panel::GridDims;
+use panel::Panel;
+use panel::color::Cicp;
+use panel::color::ColorMetadata;
+use panel::color::MaybeCicp;
+use panel::color::MaybeColorMetadata;
+use panel::gain_map::EncodedGainMap;
+use panel::gain_map::MaybeGainMap;
+use panel::metadata::ContentLightLevel;
+use panel::metadata::MaybeLightLevel;
+use panel::metadata::Metadata;
+
+// Each function here that ends in if gives a part where it is there, else none.
+fn cicp_if(present: bool, cicp: MaybeCicp) -> MaybeCicp
+    ensures { λ r. ⌜ r ≡ cond present cicp MaybeCicp.None ⌝ }
+{
+    if present {
+        return cicp;
+    }
+    MaybeCicp::None
+}
+
+fn alternate_if(present: bool, color: MaybeColorMetadata) -> MaybeColorMetadata
+    ensures { λ r. ⌜ r ≡ cond present color MaybeColorMetadata.None ⌝ }
+{
+    if present {
+        return color;
+    }
+    MaybeColorMetadata::None
+}
+
+fn light_if(present: bool, light: MaybeLightLevel) -> MaybeLightLevel
+    ensures { λ r. ⌜ r ≡ cond present light MaybeLightLevel.None ⌝ }
+{
+    if present {
+        return light;
+    }
+    MaybeLightLevel::None
+}
+
+fn gain_if(present: bool, gain: MaybeGainMap) -> MaybeGainMap
+    ensures { λ r. ⌜ r ≡ cond present gain MaybeGainMap.None ⌝ }
+{
+    if present {
+        return gain;
+    }
+    MaybeGainMap::None
+}
+
+fn cicp_value(c: CicpCodes) -> Cicp
+    ensures { λ r. ⌜ r ≡ cicp-value c ⌝ }
+{
+    or_unspecified(cicp_named(c.primaries, c.transfer, c.matrix, c.full_range as u16))
+}
+
+fn color_value(c: ColorCodes) -> ColorMetadata
+    ensures { λ r. ⌜ r ≡ color-value c ⌝ }
+{
+    let cicp = c.cicp;
+    ColorMetadata {
+        cicp: cicp_if(c.has_cicp == 1, MaybeCicp::Some(cicp_value(cicp))),
+        icc: part_if(c.has_icc == 1),
+    }
+}
+
+fn gain_value(g: GainCodes) -> EncodedGainMap
+    ensures { λ r. ⌜ r ≡ gain-value g ⌝ }
+{
+    let cicp = g.cicp;
+    let alternate = g.alternate;
+    EncodedGainMap {
+        width: g.width,
+        height: g.height,
+        bit_depth: depth_named(g.bit_depth as u16).or_eight(),
+        cicp: cicp_value(cicp),
+        tmap: part_if(g.has_tmap == 1),
+        alternate_color: alternate_if(
+            g.has_alternate == 1,
+            MaybeColorMetadata::Some(color_value(alternate)),
+        ),
+    }
+}
+
+fn metadata_value(c: PanelCodes) -> Metadata
+    ensures { λ r. ⌜ r ≡ metadata-value c ⌝ }
+{
+    Metadata {
+        orientation: orientation_named(c.orientation as u16).or_normal(),
+        content_light_level: light_if(
+            c.has_light == 1,
+            MaybeLightLevel::Some(ContentLightLevel {
+                max_content_light_level: c.max_content_light_level,
+                max_pic_average_light_level: c.max_pic_average_light_level,
+            }),
+        ),
+        exif: part_if(c.has_exif == 1),
+    }
+}
+
+fn dims_value(c: PanelCodes) -> GridDims
+    ensures { λ r. ⌜ r ≡ dims-value c ⌝ }
+{
+    GridDims {
+        cols: c.cols,
+        rows: c.rows,
+        tile_w: c.tile_w,
+        tile_h: c.tile_h,
+        full_w: c.full_w,
+        full_h: c.full_h,
+    }
+}
+
+// The numbers of a panel.
+pub fn panel_value(c: PanelCodes) -> Panel
+    ensures { λ r. ⌜ r ≡ panel-value c ⌝ }
+{
+    let color = c.color;
+    let gain = c.gain;
+    Panel {
+        dims: dims_value(c),
+        bit_depth: depth_named(c.bit_depth as u16).or_eight(),
+        color_meta: color_value(color),
+        metadata: metadata_value(c),
+        gain_map: gain_if(c.has_gain == 1, MaybeGainMap::Some(gain_value(gain))),
+    }
+}
