@@ -10,9 +10,9 @@ use Rattle.panel.specs.Answer.{Outcome, refused, length-answer, Promised}
 use Rattle.panel.specs.declared.Panel.{Panel as Numbers}
 use Rattle.numbers.specs.Values.{panel-value}
 use Rattle.numbers.specs.Known.{panel-known}
-use Rattle.numbers.specs.Numbers.{told}
-use Rattle.numbers.specs.declared.PanelCodes.{PanelCodes}
-use Rattle.numbers.specs.declared.Told.{Told}
+use Rattle.interface.specs.Told.{told}
+use Rattle.interface.specs.declared.PanelCodes.{PanelCodes}
+use Rattle.interface.specs.declared.Told.{Told}
 use Rattle.kahopiru.specs.Calls.{said-length, said, after-call}
 
 module _ (c : PanelCodes) (l : Lent) {b : Bool} (k : b ≡ panel-known c) where

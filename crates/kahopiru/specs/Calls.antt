@@ -6,7 +6,7 @@ use Rattle.panel.specs.Of.{Lent, panel-of}
 use Rattle.panel.specs.Items.{ordinary}
 use Rattle.panel.specs.Answer.{Outcome, refused, length-answer, write-answer, after}
 use Rattle.numbers.specs.Numbers.{numbers-of}
-use Rattle.numbers.specs.declared.PanelCodes.{PanelCodes}
+use Rattle.interface.specs.declared.PanelCodes.{PanelCodes}
 
 -- of the length call: 13 where a code stands for nothing, before all checks
 unfoldable pub said-length : PanelCodes → Lent → Outcome

@@ -3,8 +3,8 @@ ghost use mathlib.Core.Path.{_≡_};
 ghost use lib.ListN.{length};
 ghost use Rattle.sheet.specs.Answer.{sheet-answer, sheet-after};
 ghost use Rattle.sheet_file.specs.Says.{sheet-says};
-ghost use Rattle.numbers.specs.Numbers.{told};
-use numbers::Told;
+ghost use Rattle.interface.specs.Told.{told};
+use interface::Told;
 use sheet_file::SheetAnswer;
 use sheet_file::sheet_file;
 

@@ -6,10 +6,10 @@ use lib.Dec.{eqb}
 use Rattle.codes.specs.Codes.{is-code}
 use Rattle.codes.specs.declared.CodeKind.{CodeKind}
 use Rattle.codes.specs.declared.CodeKind.the-variants.{Depth, Orientation, YesNo, Primaries, Transfer, Matrix}
-use Rattle.numbers.specs.declared.CicpCodes.{CicpCodes}
-use Rattle.numbers.specs.declared.ColorCodes.{ColorCodes}
-use Rattle.numbers.specs.declared.GainCodes.{GainCodes}
-use Rattle.numbers.specs.declared.PanelCodes.{PanelCodes}
+use Rattle.interface.specs.declared.CicpCodes.{CicpCodes}
+use Rattle.interface.specs.declared.ColorCodes.{ColorCodes}
+use Rattle.interface.specs.declared.GainCodes.{GainCodes}
+use Rattle.interface.specs.declared.PanelCodes.{PanelCodes}
 
 unfoldable pub unknown : CodeKind → ℕ → ℕ
 unknown k n = cond (not (is-code k n)) 1 0

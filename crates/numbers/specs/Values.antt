@@ -11,17 +11,16 @@ use Rattle.panel.specs.declared.color.MaybeColorMetadata.the-variants as A
 use Rattle.panel.specs.declared.fmt.BitDepth.the-variants.{Eight}
 use Rattle.panel.specs.declared.gain_map.EncodedGainMap.{EncodedGainMap}
 use Rattle.panel.specs.declared.gain_map.MaybeGainMap.the-variants as G
-use Rattle.panel.specs.declared.metadata.ContentLightLevel.{ContentLightLevel}
 use Rattle.panel.specs.declared.metadata.MaybeLightLevel.the-variants as L
 use Rattle.panel.specs.declared.metadata.Metadata.{Metadata}
 use Rattle.panel.specs.declared.metadata.Orientation.the-variants.{Normal}
-use Rattle.panel.specs.declared.GridDims.{GridDims}
 use Rattle.panel.specs.declared.Panel.{Panel as Numbers}
 use Rattle.codes.specs.Codes.{depth-named, orientation-named, part-if, cicp-named}
-use Rattle.numbers.specs.declared.CicpCodes.{CicpCodes}
-use Rattle.numbers.specs.declared.ColorCodes.{ColorCodes}
-use Rattle.numbers.specs.declared.GainCodes.{GainCodes}
-use Rattle.numbers.specs.declared.PanelCodes.{PanelCodes}
+use Rattle.interface.specs.Plain.{dims-value, light-value}
+use Rattle.interface.specs.declared.CicpCodes.{CicpCodes}
+use Rattle.interface.specs.declared.ColorCodes.{ColorCodes}
+use Rattle.interface.specs.declared.GainCodes.{GainCodes}
+use Rattle.interface.specs.declared.PanelCodes.{PanelCodes}
 
 abbrev pub cicp-value : CicpCodes → Cicp
 cicp-value c = or (cicp-named (c .primaries) (c .transfer) (c .matrix) (c .«full_range»)) unspecified
@@ -44,9 +43,6 @@ gain-value g =
       «alternate_color» = cond (eqb (g .«has_alternate») 1) (A.Some (color-value (g .alternate))) A.None;
     }
 
-abbrev pub light-value : PanelCodes → ContentLightLevel
-light-value c = record { «max_content_light_level» = c .«max_content_light_level»; «max_pic_average_light_level» = c .«max_pic_average_light_level» }
-
 abbrev pub metadata-value : PanelCodes → Metadata
 metadata-value c =
     record {
@@ -54,11 +50,6 @@ metadata-value c =
       «content_light_level» = cond (eqb (c .«has_light») 1) (L.Some (light-value c)) L.None;
       exif = part-if (eqb (c .«has_exif») 1);
     }
-
--- ---- the panel
-
-abbrev pub dims-value : PanelCodes → GridDims
-dims-value c = record { cols = c .cols; rows = c .rows; «tile_w» = c .«tile_w»; «tile_h» = c .«tile_h»; «full_w» = c .«full_w»; «full_h» = c .«full_h» }
 
 unfoldable pub panel-value : PanelCodes → Numbers
 panel-value c =

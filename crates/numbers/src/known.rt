@@ -2,12 +2,12 @@
 ghost use mathlib.Core.Path.{_≡_};
 ghost use Prim.Native.Nat.{_≤_};
 ghost use Rattle.numbers.specs.Known.{unknown, cicp-unknown, color-unknown, gain-unknown, panel-known};
-use crate::CicpCodes;
-use crate::ColorCodes;
-use crate::GainCodes;
-use crate::PanelCodes;
 use codes::CodeKind;
 use codes::is_code;
+use interface::CicpCodes;
+use interface::ColorCodes;
+use interface::GainCodes;
+use interface::PanelCodes;
 use octets::when;
 
 // 1 where this code stands for nothing, else 0.

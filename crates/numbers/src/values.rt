@@ -1,17 +1,18 @@
 // The numbers that codes stand for, part by part. A part is there where its byte is 1.
 ghost use mathlib.Core.Path.{_≡_};
 ghost use mathlib.Core.Bool.{cond};
-ghost use Rattle.numbers.specs.Values.{cicp-value, color-value, gain-value, metadata-value, dims-value, panel-value};
-use crate::CicpCodes;
-use crate::ColorCodes;
-use crate::GainCodes;
-use crate::PanelCodes;
+ghost use Rattle.numbers.specs.Values.{cicp-value, color-value, gain-value, metadata-value, panel-value};
 use codes::cicp_named;
 use codes::depth_named;
 use codes::or_unspecified;
 use codes::orientation_named;
 use codes::part_if;
-use panel::GridDims;
+use interface::CicpCodes;
+use interface::ColorCodes;
+use interface::GainCodes;
+use interface::PanelCodes;
+use interface::dims_value;
+use interface::light_value;
 use panel::Panel;
 use panel::color::Cicp;
 use panel::color::ColorMetadata;
@@ -19,7 +20,6 @@ use panel::color::MaybeCicp;
 use panel::color::MaybeColorMetadata;
 use panel::gain_map::EncodedGainMap;
 use panel::gain_map::MaybeGainMap;
-use panel::metadata::ContentLightLevel;
 use panel::metadata::MaybeLightLevel;
 use panel::metadata::Metadata;
 
@@ -99,27 +99,8 @@ fn metadata_value(c: PanelCodes) -> Metadata
 {
     Metadata {
         orientation: orientation_named(c.orientation as u16).or_normal(),
-        content_light_level: light_if(
-            c.has_light == 1,
-            MaybeLightLevel::Some(ContentLightLevel {
-                max_content_light_level: c.max_content_light_level,
-                max_pic_average_light_level: c.max_pic_average_light_level,
-            }),
-        ),
+        content_light_level: light_if(c.has_light == 1, MaybeLightLevel::Some(light_value(c))),
         exif: part_if(c.has_exif == 1),
-    }
-}
-
-fn dims_value(c: PanelCodes) -> GridDims
-    ensures { λ r. ⌜ r ≡ dims-value c ⌝ }
-{
-    GridDims {
-        cols: c.cols,
-        rows: c.rows,
-        tile_w: c.tile_w,
-        tile_h: c.tile_h,
-        full_w: c.full_w,
-        full_h: c.full_h,
     }
 }
 

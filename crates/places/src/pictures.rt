@@ -65,7 +65,7 @@ pub fn color_places(positions: Positions, k: u8) -> PlacedColor
             colr: Run { first: d, count: k },
             pixi: Run { first: e, count: k },
         },
-        positions: Positions { next: next },
+        positions: Positions { next },
     }
 }
 
@@ -85,7 +85,7 @@ pub fn alpha_places(positions: Positions, k: u8) -> PlacedAlpha
             pixi: Run { first: b, count: k },
             auxc: Run { first: c, count: k },
         },
-        positions: Positions { next: next },
+        positions: Positions { next },
     }
 }
 
@@ -122,7 +122,7 @@ pub fn option_places(positions: Positions, colr: u8, irot: u8, imir: u8, clli: u
                 count: clli,
             },
         },
-        positions: Positions { next: next },
+        positions: Positions { next },
     }
 }
 
@@ -140,8 +140,8 @@ pub fn turns_of(o: OptionPlaces) -> OptionPlaces
     let b = clli.first;
     OptionPlaces {
         colr: Run { first: a, count: 0 },
-        irot: irot,
-        imir: imir,
+        irot,
+        imir,
         clli: Run { first: b, count: 0 },
     }
 }

@@ -52,7 +52,7 @@ pub fn image_places(positions: Positions, k: u8) -> PlacedImage
             auxc: Run { first: d, count: k },
             colr: Run { first: e, count: k },
         },
-        positions: Positions { next: next },
+        positions: Positions { next },
     }
 }
 
@@ -76,6 +76,6 @@ pub fn tone_places(positions: Positions, k: u8, alternates: u8) -> PlacedTone
                 count: alternates,
             },
         },
-        positions: Positions { next: next },
+        positions: Positions { next },
     }
 }

@@ -4,7 +4,7 @@ use mathlib.Core.Path.{sym, ap, _∙_}
 use Prim.Native.Nat.{ℕ}
 use Rattle.panel.specs.Answer.{says}
 use Rattle.panel.specs.declared.Answer.{Answer}
-use Rattle.numbers.specs.Numbers.{told}
+use Rattle.interface.specs.Told.{told}
 use Rattle.kahopiru.proofs.tell.Statement.{statement}
 use Rattle.kahopiru.proofs.tell.Tie as tie
 

@@ -3,7 +3,7 @@ use borrow.Author.Needs.{needs}
 use mathlib.Core.Path.{sym, ap}
 use Rattle.sheet_file.specs.Says.{sheet-says}
 use Rattle.sheet_file.specs.declared.SheetAnswer.{SheetAnswer}
-use Rattle.numbers.specs.Numbers.{told}
+use Rattle.interface.specs.Told.{told}
 use Rattle.kahopiru.proofs.sheet_call.tell_sheet.Statement.{statement}
 use Rattle.kahopiru.proofs.sheet_call.tell_sheet.Tie as tie
 

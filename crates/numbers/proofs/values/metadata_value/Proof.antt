@@ -7,4 +7,4 @@ returns : tie.Need-returns
 returns c = cc
 
 pub metadata-value-spec : {M : Type 1} → statement M
-metadata-value-spec = tie.close (tie.spec (λ c. search needs) (λ c κs. search needs) (λ c κs. search needs) (λ c κs. search needs) (λ c κs. search needs) returns)
+metadata-value-spec = tie.close (tie.spec (λ c. search needs) (λ c κs. search needs) (λ c κs. search needs) (λ c κs. search needs) (λ c κs. search needs) (λ c κs. search needs) returns)
