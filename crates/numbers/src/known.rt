@@ -18,6 +18,7 @@ fn unknown(kind: CodeKind, code: u16) -> u32
     when(!is_code(kind, code), 1)
 }
 
+// Each function that ends in unknown counts the codes of its part.
 fn cicp_unknown(c: CicpCodes) -> u32
     ensures { λ r. ⌜ r ≡ cicp-unknown c ⌝ }
     ensures { λ r. ⌜ r ≤ 4 ⌝ }

@@ -23,7 +23,7 @@ use panel::gain_map::MaybeGainMap;
 use panel::metadata::MaybeLightLevel;
 use panel::metadata::Metadata;
 
-// Each function here that ends in if gives a part where it is there, else none.
+// Each function that ends in if gives a part where it is there, else none.
 fn cicp_if(present: bool, cicp: MaybeCicp) -> MaybeCicp
     ensures { λ r. ⌜ r ≡ cond present cicp MaybeCicp.None ⌝ }
 {
@@ -60,6 +60,7 @@ fn gain_if(present: bool, gain: MaybeGainMap) -> MaybeGainMap
     MaybeGainMap::None
 }
 
+// Each function that ends in value gives the numbers of its part, whatever the codes.
 fn cicp_value(c: CicpCodes) -> Cicp
     ensures { λ r. ⌜ r ≡ cicp-value c ⌝ }
 {
