@@ -1,5 +1,6 @@
 // Item ids, made from the shape of the file, and written by a leaf of their own.
 ghost use mathlib.Core.Path.{_≡_};
+ghost use mathlib.Core.Bool.{true};
 ghost use Prim.Native.Nat.{_+_, _*_, _≤_};
 ghost use lib.ListN.{length};
 ghost use mathlib.Core.List.{flatMap};
@@ -90,4 +91,15 @@ pub fn item_id(n: u32) -> ItemId
     ensures { λ r. ⌜ r .0 ≡ n ⌝ }
 {
     ItemId(n as u16)
+}
+
+// The id of an item that may be absent: its number, where it is present. That of an absent item may be more than an id can hold, and 0 stands for it.
+pub fn id_if(present: bool, n: u32) -> ItemId
+    requires { ⌜ (present ≡ true → n ≤ 65535) ⌝ }
+    ensures { λ r. ⌜ (present ≡ true → r .0 ≡ n) ⌝ }
+{
+    if present {
+        return item_id(n);
+    }
+    ItemId(0)
 }

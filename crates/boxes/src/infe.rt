@@ -9,7 +9,6 @@ ghost use Rattle.octets.specs.Boxes.{full};
 ghost use Rattle.octets.specs.Stores.{Boxed};
 ghost use Rattle.panel.specs.Items.{ordinary, given};
 ghost use Rattle.panel.specs.Iinf.{tile-infes};
-use crate::ids::item_id;
 use crate::ids::write_id;
 use crate::property::size_of;
 use octets::put;
@@ -48,23 +47,21 @@ pub fn write_infe(
     put(out, e, content_type)
 }
 
-// The entry of an item that may be absent, by its number: that of an absent item may be more than an id can hold.
+// The entry of an item that may be absent.
 pub fn write_given_infe(
     out: &mut [u8],
     at: usize,
     present: bool,
-    number: u32,
+    id: ItemId,
     kind: &[u8; 4],
     hidden: bool,
     content_type: &[u8],
 ) -> usize
     requires { ⌜ at + cond present (21 + length (now «content_type»)) 0 ≤ length (now out) ⌝ }
     requires { ⌜ 21 + length (now «content_type») < 4294967296 ⌝ }
-    requires { ⌜ (present ≡ true → number ≤ 65535) ⌝ }
-    ensures { λ r. ⌜ Boxed (now (out .entry)) at (cond present (21 + length (now («content_type» .entry))) 0) (given present (full "infe" 2 (cond hidden 1 0) (be 2 number ‖ be 2 0 ‖ now (kind .entry) ‖ be 1 0 ‖ now («content_type» .entry)) ∷ [])) (now (out .exit)) r ⌝ }
+    ensures { λ r. ⌜ Boxed (now (out .entry)) at (cond present (21 + length (now («content_type» .entry))) 0) (given present (full "infe" 2 (cond hidden 1 0) (be 2 (id .0) ‖ be 2 0 ‖ now (kind .entry) ‖ be 1 0 ‖ now («content_type» .entry)) ∷ [])) (now (out .exit)) r ⌝ }
 {
     if present {
-        let id = item_id(number);
         return write_infe(out, at, id, kind, hidden, content_type);
     }
     at

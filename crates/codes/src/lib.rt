@@ -1,18 +1,20 @@
 // What the codes of a panel's enums stand for. A code that no value has stands for nothing.
+
+pub mod optional;
+
 ghost use mathlib.Core.Path.{_≡_};
 ghost use mathlib.Core.Bool.{false};
 ghost use mathlib.Core.Option.{Option·getD as or};
 ghost use Rattle.panel.specs.Of.{cicp-of};
 ghost use Rattle.panel.specs.Items.{has};
 ghost use Rattle.panel.specs.Agreement.{unspecified};
-ghost use Rattle.codes.specs.Codes.{maybe-depth, depth-named, maybe-orientation, orientation-named, maybe-bool, yes-no, cicp-named, part-if, is-code};
+ghost use Rattle.codes.specs.Codes.{maybe-depth, depth-named, maybe-orientation, orientation-named, maybe-bool, yes-no, cicp-named, is-code};
 use panel::color::Cicp;
 use panel::color::MatrixCoefficients;
 use panel::color::MaybeCicp;
 use panel::color::MaybeMatrixCoefficients;
 use panel::color::MaybePrimaries;
 use panel::color::MaybeTransferFunction;
-use panel::color::Part;
 use panel::color::Primaries;
 use panel::color::TransferFunction;
 use panel::fmt::BitDepth;
@@ -171,16 +173,6 @@ pub fn or_unspecified(cicp: MaybeCicp) -> Cicp
         MaybeCicp::Some(c) => c,
         MaybeCicp::None => Cicp::unspecified(),
     }
-}
-
-// A byte part that belongs to the panel, or one that does not.
-pub fn part_if(present: bool) -> Part
-    ensures { λ r. ⌜ r ≡ part-if present ⌝ }
-{
-    if present {
-        return Part::Present;
-    }
-    Part::Absent
 }
 
 // The kinds of codes.

@@ -12,6 +12,7 @@ ghost use Rattle.panel.specs.File.{grpl};
 ghost use Rattle.boxes.specs.Runs.{Shaped};
 use boxes::ids::color_grid_id;
 use boxes::ids::gain_number;
+use boxes::ids::id_if;
 use boxes::ids::item_id;
 use boxes::infe::write_given_infe;
 use boxes::meta::write_grpl;
@@ -54,17 +55,12 @@ pub fn write_iinf(out: &mut [u8], at: usize, s: Shape) -> usize
     ensures { λ r. ⌜ Boxed (now (out .entry)) at (cond (s .gain) 62 0 + cond (s .tone) 21 0) (gain-infes ordinary s) (now (out .exit)) r ⌝ }
 {
     let n = gain_number(s);
-    let a = write_given_infe(out, at, s.gain, n, b"hvc1", true, b"");
-    let b = write_given_infe(
-        out,
-        a,
-        s.gain,
-        n + 1,
-        b"mime",
-        true,
-        b"application/rdf+xml\0",
-    );
-    write_given_infe(out, b, s.tone, n + 2, b"tmap", false, b"")
+    let image = id_if(s.gain, n);
+    let xmp = id_if(s.gain, n + 1);
+    let tone = id_if(s.tone, n + 2);
+    let a = write_given_infe(out, at, s.gain, image, b"hvc1", true, b"");
+    let b = write_given_infe(out, a, s.gain, xmp, b"mime", true, b"application/rdf+xml\0");
+    write_given_infe(out, b, s.tone, tone, b"tmap", false, b"")
 }
 
 // The gain image is auxiliary to the colour grid, and its XMP describes it.

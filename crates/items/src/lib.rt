@@ -15,6 +15,7 @@ use boxes::ids::alpha_grid_id;
 use boxes::ids::alpha_tile_base;
 use boxes::ids::color_grid_id;
 use boxes::ids::exif_number;
+use boxes::ids::id_if;
 use boxes::ids::item_id;
 use boxes::ids::write_count;
 use boxes::infe::write_given_infe;
@@ -60,6 +61,7 @@ pub fn exif_id(s: Shape) -> ItemId
 }
 
 // iinf.
+// Nine calls: the parts of the box in a row, and the numbers that two of them take.
 pub fn write_iinf(out: &mut [u8], at: usize, size: u32, s: Shape) -> usize
     requires { ⌜ at + (8 + iinf-size ordinary s) ≤ length (now out) ⌝ }
     requires { ⌜ Shaped s ⌝ }
@@ -70,7 +72,8 @@ pub fn write_iinf(out: &mut [u8], at: usize, size: u32, s: Shape) -> usize
     let b = write_count(out, a, last_id(s));
     let c = write_color_infes(out, b, s);
     let d = write_alpha_infes(out, c, s);
-    let e = write_given_infe(out, d, s.exif, exif_number(s), b"Exif", false, b"");
+    let exif = id_if(s.exif, exif_number(s));
+    let e = write_given_infe(out, d, s.exif, exif, b"Exif", false, b"");
     gain_items::write_iinf(out, e, s)
 }
 

@@ -1,12 +1,15 @@
 // The numbers that codes stand for, part by part. A part is there where its byte is 1.
 ghost use mathlib.Core.Path.{_≡_};
-ghost use mathlib.Core.Bool.{cond};
 ghost use Rattle.numbers.specs.Values.{cicp-value, color-value, gain-value, metadata-value, panel-value};
 use codes::cicp_named;
 use codes::depth_named;
+use codes::optional::alternate_if;
+use codes::optional::cicp_if;
+use codes::optional::gain_if;
+use codes::optional::light_if;
+use codes::optional::part_if;
 use codes::or_unspecified;
 use codes::orientation_named;
-use codes::part_if;
 use interface::CicpCodes;
 use interface::ColorCodes;
 use interface::GainCodes;
@@ -22,43 +25,6 @@ use panel::gain_map::EncodedGainMap;
 use panel::gain_map::MaybeGainMap;
 use panel::metadata::MaybeLightLevel;
 use panel::metadata::Metadata;
-
-// Each function that ends in if gives a part where it is there, else none.
-fn cicp_if(present: bool, cicp: MaybeCicp) -> MaybeCicp
-    ensures { λ r. ⌜ r ≡ cond present cicp MaybeCicp.None ⌝ }
-{
-    if present {
-        return cicp;
-    }
-    MaybeCicp::None
-}
-
-fn alternate_if(present: bool, color: MaybeColorMetadata) -> MaybeColorMetadata
-    ensures { λ r. ⌜ r ≡ cond present color MaybeColorMetadata.None ⌝ }
-{
-    if present {
-        return color;
-    }
-    MaybeColorMetadata::None
-}
-
-fn light_if(present: bool, light: MaybeLightLevel) -> MaybeLightLevel
-    ensures { λ r. ⌜ r ≡ cond present light MaybeLightLevel.None ⌝ }
-{
-    if present {
-        return light;
-    }
-    MaybeLightLevel::None
-}
-
-fn gain_if(present: bool, gain: MaybeGainMap) -> MaybeGainMap
-    ensures { λ r. ⌜ r ≡ cond present gain MaybeGainMap.None ⌝ }
-{
-    if present {
-        return gain;
-    }
-    MaybeGainMap::None
-}
 
 // Each function that ends in value gives the numbers of its part, whatever the codes.
 fn cicp_value(c: CicpCodes) -> Cicp

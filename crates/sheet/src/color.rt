@@ -1,12 +1,12 @@
 // The colour of the picture, and the alternate colour of a tone map.
 ghost use mathlib.Core.Path.{_≡_};
-ghost use mathlib.Core.Bool.{cond};
 ghost use mathlib.Core.List.{List};
 ghost use Prim.Native.Nat.{ℕ};
 ghost use Rattle.panel.specs.Of.{part, cicp-of, colour-of, alternate-of};
 ghost use Rattle.panel.specs.Agreement.{filled};
 ghost use Rattle.sheet_fields.specs.Cursor.{span-of, Reads};
 ghost use Rattle.sheet.specs.Sheet.{colour, alternate};
+use codes::optional::cicp_if;
 use panel::color::ColorMetadata;
 use panel::color::MaybeCicp;
 use panel::color::MaybeColorMetadata;
@@ -30,16 +30,6 @@ pub struct AlternateRead {
     pub color: MaybeColorMetadata,
     pub icc: Span,
     pub next: Cursor,
-}
-
-// Code points, or none if their bit is off.
-fn cicp_if(stands: bool, cicp: MaybeCicp) -> MaybeCicp
-    ensures { λ r. ⌜ r ≡ cond stands cicp MaybeCicp.None ⌝ }
-{
-    if stands {
-        return cicp;
-    }
-    MaybeCicp::None
 }
 
 // A colour: code points and a profile, each if its bit stands.

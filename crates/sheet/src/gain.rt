@@ -1,11 +1,10 @@
 // The gain map, with its tone map and its alternate colour.
-ghost use mathlib.Core.Path.{_≡_};
-ghost use mathlib.Core.Bool.{cond};
 ghost use Rattle.sheet_fields.specs.Fields.{optional};
 ghost use Rattle.sheet_fields.specs.Cursor.{Reads};
 ghost use Rattle.sheet.specs.Sheet.{image, gain};
 ghost use Rattle.sheet.specs.Said.{image-of, maybe-gain-said};
 use crate::color::read_alternate;
+use codes::optional::gain_if;
 use panel::color::Cicp;
 use panel::fmt::BitDepth;
 use panel::gain_map::EncodedGainMap;
@@ -75,16 +74,6 @@ fn read_image(sheet: &[u8], c: Cursor) -> ImageRead
         xmp,
         next,
     }
-}
-
-// A gain map, or none if its bit is off.
-fn gain_if(stands: bool, gain: MaybeGainMap) -> MaybeGainMap
-    ensures { λ r. ⌜ r ≡ cond stands gain MaybeGainMap.None ⌝ }
-{
-    if stands {
-        return gain;
-    }
-    MaybeGainMap::None
 }
 
 // The gain map, if its bit stands, with its tone map and its alternate colour if theirs do.

@@ -7,6 +7,7 @@ ghost use Rattle.sheet_fields.specs.Cursor.{Reads};
 ghost use Rattle.sheet.specs.Sheet.{oriented, light, metadata};
 ghost use Rattle.sheet.specs.Said.{metadata-of};
 use codes::CodeKind;
+use codes::optional::light_if;
 use codes::orientation_named;
 use panel::metadata::ContentLightLevel;
 use panel::metadata::MaybeLightLevel;
@@ -58,16 +59,6 @@ fn read_oriented(sheet: &[u8], c: Cursor, stands: bool) -> OrientationRead
     let orientation = orientation_if(stands, named);
     let next = behind(stands, c, n.next);
     OrientationRead { orientation, next }
-}
-
-// A light level, or none if its bit is off.
-fn light_if(stands: bool, light: MaybeLightLevel) -> MaybeLightLevel
-    ensures { λ r. ⌜ r ≡ cond stands light MaybeLightLevel.None ⌝ }
-{
-    if stands {
-        return light;
-    }
-    MaybeLightLevel::None
 }
 
 // The light level, if its bit stands: two numbers of 16 bits.

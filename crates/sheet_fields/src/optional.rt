@@ -8,7 +8,7 @@ ghost use Rattle.sheet_fields.specs.Cursor.{span-of, Reads};
 use crate::Cursor;
 use crate::Span;
 use crate::read_string;
-use codes::part_if;
+use codes::optional::part_if;
 use panel::color::Part;
 
 // A byte part, present or not, and the cursor behind it.
