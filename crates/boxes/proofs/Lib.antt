@@ -1,4 +1,3 @@
-pub mod Optional
 pub mod Loops
 pub mod Marks
 pub mod Pictures

@@ -1,12 +1,10 @@
-// One writer for each box and property, by value.
+// One writer for each box, by value; those of the properties are in `properties`.
 //
 // Each writes at a position of a lent buffer, answers the position behind what it wrote, and is proved equal to its definition in `panel`.
 
 pub mod association;
-pub mod colr;
 pub mod ftyp;
 pub mod ids;
 pub mod infe;
 pub mod meta;
-pub mod property;
 pub mod reference;

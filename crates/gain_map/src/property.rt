@@ -9,19 +9,19 @@ ghost use Rattle.octets.specs.Stores.{Boxed};
 ghost use Rattle.panel.specs.Types.{bits};
 ghost use Rattle.panel.specs.Of.{Lent, part, alternate-of, gain-of};
 ghost use Rattle.panel.specs.Ipco.{nclx-payload, ispe, pixi, auxC, alternates, tone-slots, gain-slots, held};
-ghost use Rattle.boxes.specs.Sizes.{alternates-size};
+ghost use Rattle.properties.specs.Sizes.{alternates-size};
 ghost use Rattle.gain_map.specs.Properties.{tone-properties-size, gain-properties-size};
-use boxes::colr::write_alternate_colr;
-use boxes::colr::write_colr_nclx;
-use boxes::property::write_auxc;
-use boxes::property::write_hvcc;
-use boxes::property::write_ispe;
-use boxes::property::write_pixi_color;
-use boxes::property::write_pixi_mono;
 use panel::color::MaybeColorMetadata;
 use panel::color::Part;
 use panel::gain_map::EncodedGainMap;
 use panel::gain_map::MaybeGainMap;
+use properties::colr::write_alternate_colr;
+use properties::colr::write_colr_nclx;
+use properties::write_auxc;
+use properties::write_hvcc;
+use properties::write_ispe;
+use properties::write_pixi_color;
+use properties::write_pixi_mono;
 
 // hvcC, ispe, pixi, auxC and colr of the gain image.
 fn write_image_properties(out: &mut [u8], at: usize, g: EncodedGainMap, hvcc: &[u8]) -> usize

@@ -29,7 +29,7 @@ use Rattle.length.specs.Properties as L
 use Rattle.length.specs.Size.{mdat-size}
 use Rattle.length.specs.Size as S
 use Rattle.length.proofs.Properties.{length-ipco}
-use Rattle.boxes.specs.Sizes.{first-colr-size, second-colr-size, stated-size, alternates-size, irot-size, imir-size, clli-size}
+use Rattle.properties.specs.Sizes.{first-colr-size, second-colr-size, stated-size, alternates-size, irot-size, imir-size, clli-size}
 use Rattle.gain_map.specs.Properties.{tone-properties-size, gain-properties-size}
 use Rattle.gain_map.specs.Data.{gain-data, gain-data-size}
 use Rattle.gain_map.specs.Data as D

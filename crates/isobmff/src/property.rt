@@ -12,16 +12,6 @@ ghost use Rattle.panel.specs.Ipco.{pixi, tone-ispe, gain-slots, held, ipco};
 ghost use Rattle.length.specs.Properties.{ipco-size};
 ghost use Rattle.gain_map.specs.Properties.{gain-properties-size};
 ghost use Rattle.isobmff.specs.Parts.{lent-props, color-properties, color-properties-size, alpha-properties, alpha-properties-size, optional-properties, optional-properties-size};
-use boxes::colr::write_colr;
-use boxes::colr::write_secondary_colr;
-use boxes::property::write_auxc;
-use boxes::property::write_clli;
-use boxes::property::write_hvcc;
-use boxes::property::write_imir;
-use boxes::property::write_irot;
-use boxes::property::write_ispe;
-use boxes::property::write_pixi_color;
-use boxes::property::write_pixi_mono;
 use octets::write_box;
 use panel::GridDims;
 use panel::Panel;
@@ -30,6 +20,16 @@ use panel::fmt::BitDepth;
 use panel::gain_map::MaybeGainMap;
 use panel::metadata::Metadata;
 use panel::metadata::Orientation;
+use properties::colr::write_colr;
+use properties::colr::write_secondary_colr;
+use properties::write_auxc;
+use properties::write_clli;
+use properties::write_hvcc;
+use properties::write_imir;
+use properties::write_irot;
+use properties::write_ispe;
+use properties::write_pixi_color;
+use properties::write_pixi_mono;
 
 // hvcC of the colour tiles, ispe of a tile and of the whole picture, colr, and pixi of three channels.
 fn write_color_properties(

@@ -5,7 +5,7 @@
 ghost use mathlib.Core.Path.{_≡_};
 ghost use mathlib.Core.Bool.{cond};
 ghost use mathlib.Core.List.{_++_};
-ghost use Prim.Native.Nat.{_+_, _≤_};
+ghost use Prim.Native.Nat.{_+_, _≤_, _<_};
 ghost use lib.ListN.{length};
 ghost use Rattle.octets.specs.Numbers.{_‖_, be};
 ghost use Rattle.octets.specs.Stores.{Wrote};
@@ -83,4 +83,12 @@ pub fn when(b: bool, n: u32) -> u32
     ensures { λ r. ⌜ r ≤ n ⌝ }
 {
     if b { n } else { 0 }
+}
+
+// The size of a box with a body of so many bytes behind `head`.
+pub fn size_of(head: u32, len: usize) -> u32
+    requires { ⌜ head + len < 4294967296 ⌝ }
+    ensures { λ r. ⌜ r ≡ head + len ⌝ }
+{
+    head + len as u32
 }
