@@ -4,7 +4,9 @@
 
 pub mod association;
 pub mod ftyp;
+pub mod grpl;
+pub mod hdlr;
 pub mod ids;
 pub mod infe;
-pub mod meta;
+pub mod pitm;
 pub mod reference;

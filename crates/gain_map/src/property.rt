@@ -15,13 +15,13 @@ use panel::color::MaybeColorMetadata;
 use panel::color::Part;
 use panel::gain_map::EncodedGainMap;
 use panel::gain_map::MaybeGainMap;
+use properties::auxc::write_auxc;
 use properties::colr::write_alternate_colr;
 use properties::colr::write_colr_nclx;
-use properties::write_auxc;
-use properties::write_hvcc;
-use properties::write_ispe;
-use properties::write_pixi_color;
-use properties::write_pixi_mono;
+use properties::hvcc::write_hvcc;
+use properties::ispe::write_ispe;
+use properties::pixi::write_pixi_color;
+use properties::pixi::write_pixi_mono;
 
 // hvcC, ispe, pixi, auxC and colr of the gain image.
 fn write_image_properties(out: &mut [u8], at: usize, g: EncodedGainMap, hvcc: &[u8]) -> usize

@@ -18,9 +18,9 @@ ghost use Rattle.isobmff.specs.Sections.{item-boxes, item-boxes-size, It
 use crate::location::Offsets;
 use crate::location::write_iloc;
 use crate::property::write_ipco;
+use boxes::hdlr::write_hdlr;
 use boxes::ids::color_grid_id;
-use boxes::meta::write_hdlr;
-use boxes::meta::write_pitm;
+use boxes::pitm::write_pitm;
 use gain_map::location::PayloadLengths;
 use grids::write_descriptor;
 use ipma::write_ipma;

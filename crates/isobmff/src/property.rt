@@ -20,16 +20,16 @@ use panel::fmt::BitDepth;
 use panel::gain_map::MaybeGainMap;
 use panel::metadata::Metadata;
 use panel::metadata::Orientation;
+use properties::auxc::write_auxc;
+use properties::clli::write_clli;
 use properties::colr::write_colr;
 use properties::colr::write_secondary_colr;
-use properties::write_auxc;
-use properties::write_clli;
-use properties::write_hvcc;
-use properties::write_imir;
-use properties::write_irot;
-use properties::write_ispe;
-use properties::write_pixi_color;
-use properties::write_pixi_mono;
+use properties::hvcc::write_hvcc;
+use properties::imir::write_imir;
+use properties::irot::write_irot;
+use properties::ispe::write_ispe;
+use properties::pixi::write_pixi_color;
+use properties::pixi::write_pixi_mono;
 
 // hvcC of the colour tiles, ispe of a tile and of the whole picture, colr, and pixi of three channels.
 fn write_color_properties(

@@ -1,0 +1,19 @@
+// The property hvcC.
+ghost use mathlib.Core.List.{[], _∷_};
+ghost use Prim.Native.Nat.{_+_, _≤_, _<_};
+ghost use lib.ListN.{length};
+ghost use Rattle.octets.specs.Boxes.{box};
+ghost use Rattle.octets.specs.Stores.{Boxed};
+use octets::put;
+use octets::size_of;
+use octets::write_box;
+
+// hvcC: a decoder configuration record.
+pub fn write_hvcc(out: &mut [u8], at: usize, config: &[u8]) -> usize
+    requires { ⌜ at + (8 + length (now config)) ≤ length (now out) ⌝ }
+    requires { ⌜ 8 + length (now config) < 4294967296 ⌝ }
+    ensures { λ r. ⌜ Boxed (now (out .entry)) at (8 + length (now (config .entry))) (box "hvcC" (now (config .entry)) ∷ []) (now (out .exit)) r ⌝ }
+{
+    let a = write_box(out, at, size_of(8, config.len()), b"hvcC");
+    put(out, a, config)
+}
