@@ -27,7 +27,7 @@ use Rattle.sizes.specs.Sized.{Sized}
 use Rattle.sizes.specs.declared.Sizes.{Sizes}
 use Rattle.offsets.specs.Laid.{Given, Within}
 use Rattle.offsets.proofs.Exact.{within}
-use Rattle.layout.specs.Plan.{Made-from}
+use Rattle.layout.specs.Plan.{Passes, Made-from}
 use Rattle.layout.specs.declared.FilePlan.{FilePlan}
 
 -- ---- the checks decide
@@ -65,15 +65,6 @@ module _ (n : Numbers) (l : Lent) where
   abbrev pub Sums : Bool → Type 0
   Sums b = (bad-sum (l .tiles) || bad-sum (l .alpha)) ≡ b
 
-  -- the first three checks do not hold
-  pub record Passed : Type 0 where
-    pub sides : Sides false
-    pub counts : Counts false
-    pub sums : Sums false
-
-  pub through : Sides false → Counts false → Sums false → Passed
-  through a b c = record { sides = a; counts = b; sums = c }
-
   pub stop-1 : Sides true → refused 1 ≡ length-answer ordinary (panel-of n l)
   unfolding panel-of
   stop-1 a = answered _ (stop (all (panel-of n l)) a)
@@ -98,14 +89,14 @@ module _ (n : Numbers) (l : Lent) where
   given e y i k c g =
       record { even = even-accepted ordinary _ (is-accepted ordinary _ e); sized = y; items = i; grid = k ∙ sym (length-descriptor (n .dims)); colors = refl; alphas = refl; color-rext = c; gain-rext = g }
 
-  module _ (h : Passed) where
+  module _ (h : Sides false) (i : Counts false) (j : Sums false) where
     -- both pictures have as many tiles, whose lengths sum to what is lent
     pub even : Even (panel-of n l)
     unfolding panel-of
     even =
         let k = n .dims .rows * n .dims .cols in
-        let counts = or-false (differ (length (l .tiles .lengths)) k) (differ (length (l .alpha .lengths)) k) (h .counts) in
-        let sums = or-false (bad-sum (l .tiles)) (bad-sum (l .alpha)) (h .sums) in
+        let counts = or-false (differ (length (l .tiles .lengths)) k) (differ (length (l .alpha .lengths)) k) i in
+        let sums = or-false (bad-sum (l .tiles)) (bad-sum (l .alpha)) j in
         record { counts = same _ _ (counts .1) ∙ sym (same _ _ (counts .0)); sum = same _ _ (sums .0); alpha-sum = same _ _ (sums .1) }
 
     -- s is the shape of the panel
@@ -114,26 +105,32 @@ module _ (n : Numbers) (l : Lent) where
       unfolding panel-of
       stop-4 d =
           let id = last-id (shape (panel-of n l)) in
-          answered _ (stop (pass (pass (pass (all (panel-of n l)) (h .sides)) (h .counts)) (h .sums)) (le-leb 65536 id (omega (arith, ap last-id e))))
+          answered _ (stop (pass (pass (pass (all (panel-of n l)) h) i) j) (le-leb 65536 id (omega (arith, ap last-id e))))
 
       behind-4 : last-id s ≤ 65535 → Decides (refusal ordinary (panel-of n l)) (record { number = 5; holds = λ _. ltb 4294967295 (length (file ordinary (panel-of n l))) } ∷ [])
       unfolding panel-of
       behind-4 d =
           let id = last-id (shape (panel-of n l)) in
-          pass (pass (pass (pass (all (panel-of n l)) (h .sides)) (h .counts)) (h .sums)) (lt-leb 65536 id (omega (arith, ap last-id e)))
+          pass (pass (pass (pass (all (panel-of n l)) h) i) j) (lt-leb 65536 id (omega (arith, ap last-id e)))
 
-      -- r stands for the file's length
-      module _ (d : last-id s ≤ 65535) {r : ℕ} (c : Capped 4294967296 r (size ordinary (panel-of n l))) where
-        pub stop-5 : 4294967295 < r → refused 5 ≡ length-answer ordinary (panel-of n l)
-        stop-5 f =
-            let p = panel-of n l in
-            answered _ (stop (behind-4 d) (lt-ltb 4294967295 (length (file ordinary p)) (omega (arith, length-file ordinary p even, c .below))))
+-- none of the first four checks holds, and r stands for the file's length
+module _ (n : Numbers) (l : Lent) {s : Shape} (h : Passes n l s) {r : ℕ} (c : Capped 4294967296 r (size ordinary (panel-of n l))) where
+  abbrev evenly : Even (panel-of n l)
+  evenly = even n l (h .sides) (h .counts) (h .sums)
 
-        pub accepted : r ≤ 4294967295 → (refusal ordinary (panel-of n l) ≡ 0) × (r ≡ length (file ordinary (panel-of n l)))
-        accepted f =
-            let p = panel-of n l in
-            let k : r ≡ length (file ordinary p) = c .whole (omega arith) ∙ sym (length-file ordinary p even) in
-            (pass (behind-4 d) (le-ltb 4294967295 (length (file ordinary p)) (omega arith)) .by, k)
+  abbrev decides : Decides (refusal ordinary (panel-of n l)) (record { number = 5; holds = λ _. ltb 4294967295 (length (file ordinary (panel-of n l))) } ∷ [])
+  decides = behind-4 n l (h .sides) (h .counts) (h .sums) (h .items) (h .last)
+
+  pub stop-5 : 4294967295 < r → refused 5 ≡ length-answer ordinary (panel-of n l)
+  stop-5 f =
+      let p = panel-of n l in
+      answered _ (stop decides (lt-ltb 4294967295 (length (file ordinary p)) (omega (arith, length-file ordinary p evenly, c .below))))
+
+  pub accepted : r ≤ 4294967295 → (refusal ordinary (panel-of n l) ≡ 0) × (r ≡ length (file ordinary (panel-of n l)))
+  accepted f =
+      let p = panel-of n l in
+      let k : r ≡ length (file ordinary p) = c .whole (omega arith) ∙ sym (length-file ordinary p evenly) in
+      (pass decides (le-ltb 4294967295 (length (file ordinary p)) (omega arith)) .by, k)
 
 -- what the length call answers where the plan is made
 pub made-length : (p : Panel) (f : FilePlan) → Made-from p f → made (f .length) ≡ length-answer ordinary p

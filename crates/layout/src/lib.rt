@@ -1,11 +1,11 @@
 // The plan of a panel's file, computed from lengths alone before anything is written; and the length call.
 ghost use mathlib.Core.Path.{_≡_};
-ghost use Rattle.panel.specs.Of.{panel-of};
+ghost use Rattle.panel.specs.Of.{Lent, panel-of};
 ghost use Rattle.panel.specs.Items.{ordinary};
 ghost use Rattle.panel.specs.Widths.{Fits};
 ghost use Rattle.panel.specs.Answer.{says, length-answer};
 ghost use Rattle.layout.specs.Lent.{lent};
-ghost use Rattle.layout.specs.Plan.{Planned};
+ghost use Rattle.layout.specs.Plan.{First, Planned};
 use boxes::ftyp::hvcc_uses_rext;
 use checks::bad_counts;
 use checks::bad_grid;
@@ -20,6 +20,7 @@ use offsets::placed;
 use panel::Answer;
 use panel::Panel;
 use panel::Refusal;
+use panel::Shape;
 use places::Places;
 use places::places_of;
 use sizes::gain_uses_rext;
@@ -40,7 +41,45 @@ pub enum Plan {
     Made(FilePlan),
 }
 
-// The plan of a panel's file: the checks 1 to 5 in their order, each with its own answer, and all numbers of the file.
+// Why a panel is refused by its numbers and its lists of lengths, or which items its file has.
+pub enum Checked {
+    Refused(Refusal),
+    Passed(Shape),
+}
+
+// The checks 1 to 4 in their order, each with its own answer.
+fn first_checks(
+    panel: Panel,
+    color_lengths: &[u32],
+    alpha_lengths: &[u32],
+    color_samples: &[u8],
+    alpha_samples: &[u8],
+) -> Checked
+    ensures { λ r. ⌜ ((l : Lent) → l .tiles .lengths ≡ now («color_lengths» .entry) → l .alpha .lengths ≡ now («alpha_lengths» .entry) → l .tiles .bytes ≡ now («color_samples» .entry) → l .alpha .bytes ≡ now («alpha_samples» .entry) → First panel l r) ⌝ }
+{
+    let dims = panel.dims;
+    if bad_grid(dims.rows, dims.cols) {
+        return Checked::Refused(Refusal::GridSide);
+    }
+    if bad_counts(
+        dims.rows,
+        dims.cols,
+        color_lengths.len() as u64,
+        alpha_lengths.len() as u64,
+    ) {
+        return Checked::Refused(Refusal::TileCount);
+    }
+    if bad_sums(color_lengths, alpha_lengths, color_samples, alpha_samples) {
+        return Checked::Refused(Refusal::SampleLengths);
+    }
+    let shape = shape_of(panel, color_lengths.len() as u32);
+    if 65535 < last_id(shape) {
+        return Checked::Refused(Refusal::ItemIds);
+    }
+    Checked::Passed(shape)
+}
+
+// The plan of a panel's file: the checks 1 to 5 in their order, and all numbers of the file.
 // Above 40 lines and 8 calls by its parameters and numbers, one to a line: each byte part is a slice of its own.
 pub fn plan_of(
     panel: Panel,
@@ -62,26 +101,19 @@ pub fn plan_of(
     ensures { λ r. ⌜ Fits (panel-of panel (lent (now («color_hvcc» .entry)) (now («alpha_hvcc» .entry)) (now («color_lengths» .entry)) (now («alpha_lengths» .entry)) (now («color_samples» .entry)) (now («alpha_samples» .entry)) (now (icc .entry)) (now (exif .entry)) (now («gain_hvcc» .entry)) (now («gain_sample» .entry)) (now («gain_xmp» .entry)) (now («gain_tmap» .entry)) (now («alternate_icc» .entry)))) ⌝ }
 {
     let fits = numbers_fit(panel);
+    let first = first_checks(
+        panel,
+        color_lengths,
+        alpha_lengths,
+        color_samples,
+        alpha_samples,
+    );
+    let shape = match first {
+        Checked::Refused(r) => return Plan::Refused(r),
+        Checked::Passed(s) => s,
+    };
     let dims = panel.dims;
     let gain = panel.gain_map;
-    if bad_grid(dims.rows, dims.cols) {
-        return Plan::Refused(Refusal::GridSide);
-    }
-    if bad_counts(
-        dims.rows,
-        dims.cols,
-        color_lengths.len() as u64,
-        alpha_lengths.len() as u64,
-    ) {
-        return Plan::Refused(Refusal::TileCount);
-    }
-    if bad_sums(color_lengths, alpha_lengths, color_samples, alpha_samples) {
-        return Plan::Refused(Refusal::SampleLengths);
-    }
-    let shape = shape_of(panel, color_lengths.len() as u32);
-    if 65535 < last_id(shape) {
-        return Plan::Refused(Refusal::ItemIds);
-    }
     let gains = gain_lengths(gain_hvcc, gain_sample, gain_xmp, gain_tmap, alternate_icc);
     let lengths = lengths_of(
         color_hvcc,
