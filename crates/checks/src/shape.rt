@@ -33,12 +33,13 @@ pub fn has_cicp(cicp: MaybeCicp) -> bool
     }
 }
 
-// Whether there is a gain map, and whether it has a tone map.
+// Of a gain map that may be absent: whether it is there, and whether it has a tone map.
 pub struct GainParts {
     pub gain: bool,
     pub tone: bool,
 }
 
+// Which of the two there are.
 fn gain_parts(gain: MaybeGainMap) -> GainParts
     ensures { λ r. ⌜ ((l : Lent) → (r .gain ≡ has (gain-of gain l)) × (r .tone ≡ has (tone-of (gain-of gain l)))) ⌝ }
 {

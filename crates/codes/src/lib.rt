@@ -3,7 +3,6 @@
 pub mod optional;
 
 ghost use mathlib.Core.Path.{_≡_};
-ghost use mathlib.Core.Bool.{false};
 ghost use mathlib.Core.Option.{Option·getD as or};
 ghost use Rattle.panel.specs.Of.{cicp-of};
 ghost use Rattle.panel.specs.Items.{has};
@@ -115,16 +114,6 @@ impl MaybeBool {
     {
         match self {
             MaybeBool::Some(_) => true,
-            MaybeBool::None => false,
-        }
-    }
-
-    // It, or no.
-    pub fn or_no(self) -> bool
-        ensures { λ r. ⌜ r ≡ or (maybe-bool self) false ⌝ }
-    {
-        match self {
-            MaybeBool::Some(v) => v,
             MaybeBool::None => false,
         }
     }
