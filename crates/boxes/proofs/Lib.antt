@@ -3,3 +3,4 @@ pub mod Marks
 pub mod Pictures
 pub mod Shapes
 pub mod Tests
+pub mod Widths

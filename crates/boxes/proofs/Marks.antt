@@ -1,13 +1,13 @@
 -- Positions printed one by one are the positions.
 use mathlib.Core.Path.{_≡_, refl, sym, ap, _∙_}
 use mathlib.Core.Bool.{Bool, true, false, cond}
-use mathlib.Core.List.{List, [], _∷_, map, flatMap}
+use mathlib.Core.List.{List, [], _∷_, _++_, append-assoc, map, flatMap}
 use Prim.Native.Nat.{ℕ, _+_}
 use native.Mathlib.Nat.{zero-add}
 use lib.ListN.{length, length-append, length-map}
 use Rattle.octets.specs.Numbers.{_‖_, be}
 use Rattle.octets.proofs.Lists.{flatMap-one}
-use Rattle.panel.specs.Items.{ordinary}
+use Rattle.panel.specs.Items.{Form}
 use Rattle.panel.specs.Ipma.{essential, _with_, association}
 use Rattle.panel.proofs.Ids.{length-ids-from}
 use Rattle.boxes.specs.Runs.{places, marked}
@@ -38,11 +38,11 @@ length-essential r = length-map (places r) (λ k. 128 + k) ∙ length-places r
 count-three : (a b c : Run) → length (essential (places a) ‖ essential (places b) ‖ essential (places c)) ≡ a .count + (b .count + c .count)
 count-three a b c = simp (length-append, length-essential)
 
-pub three-associated : (id : ℕ) (a b c : Run)
-    → be 2 id ‖ be 1 (a .count + (b .count + c .count)) ‖ essential (places a) ‖ essential (places b) ‖ essential (places c)
-    ≡ association ordinary (id with essential (places a) ‖ essential (places b) ‖ essential (places c))
-three-associated id a b c = ap (λ (k : ℕ). be 2 id ‖ be 1 k ‖ essential (places a) ‖ essential (places b) ‖ essential (places c)) (sym (count-three a b c))
+pub three-associated : (f : Form) (id : ℕ) (a b c : Run)
+    → (be (f .id) id ‖ be 1 (a .count + (b .count + c .count))) ++ (essential (places a) ‖ essential (places b) ‖ essential (places c))
+    ≡ association f (id with essential (places a) ‖ essential (places b) ‖ essential (places c))
+three-associated f id a b c = append-assoc (be (f .id) id) _ _ ∙ ap (λ (k : ℕ). be (f .id) id ‖ be 1 k ‖ essential (places a) ‖ essential (places b) ‖ essential (places c)) (sym (count-three a b c))
 
 -- one entry of ipma
-pub associated : {id count j : ℕ} (l : List ℕ) → id ≡ j → count ≡ length l → be 2 id ‖ be 1 count ‖ l ≡ flatMap (association ordinary) ((j with l) ∷ [])
-associated {j = j} l h k = (λ i. be 2 (h i) ‖ be 1 (k i) ‖ l) ∙ sym (flatMap-one (association ordinary) (j with l))
+pub associated : (f : Form) {id count j : ℕ} (l : List ℕ) → id ≡ j → count ≡ length l → (be (f .id) id ‖ be 1 count) ++ l ≡ flatMap (association f) ((j with l) ∷ [])
+associated f {id} {count} {j} l h k = append-assoc (be (f .id) id) (be 1 count) l ∙ (λ i. be (f .id) (h i) ‖ be 1 (k i) ‖ l) ∙ sym (flatMap-one (association f) (j with l))

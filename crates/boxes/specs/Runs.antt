@@ -5,7 +5,6 @@ use mathlib.Core.List.{List}
 use Prim.Native.Nat.{ℕ, _+_, _≤_}
 use Rattle.panel.specs.Items.{ids-from}
 use Rattle.panel.specs.Ipma.{essential}
-use Rattle.panel.specs.Refusal.{last-id}
 use Rattle.panel.specs.declared.Shape.{Shape}
 use Rattle.boxes.specs.declared.association.Run.{Run}
 
@@ -21,7 +20,7 @@ pub record Fitting (r : Run) : Type 0 where
   pub most : r .first .0 + r .count ≤ 127
   pub few : r .count ≤ 2
 
--- a shape whose ids fit in 16 bits, and that has a tone map only with a gain map
+-- a shape whose tiles 16 bits can count, and that has a tone map only with a gain map
 pub record Shaped (s : Shape) : Type 0 where
-  pub last : last-id s ≤ 65535
+  pub few : s .tiles ≤ 65535
   pub toned : s .tone ≡ true → s .gain ≡ true

@@ -2,17 +2,20 @@
 ghost use mathlib.Core.Path.{_≡_};
 ghost use mathlib.Core.Bool.{cond};
 ghost use mathlib.Core.List.{map, flatMap};
-ghost use Prim.Native.Nat.{_+_, _*_, _≤_};
+ghost use Prim.Native.Nat.{_+_, _*_, _≤_, _<_};
 ghost use lib.ListN.{length};
 ghost use Rattle.octets.specs.Numbers.{_‖_, be};
 ghost use Rattle.octets.specs.Stores.{Wrote};
-ghost use Rattle.panel.specs.Items.{ordinary};
+ghost use Rattle.panel.specs.Forms.{form-of};
 ghost use Rattle.panel.specs.Ipma.{essential, _with_, each, association};
 ghost use Rattle.boxes.specs.Runs.{places, marked, Fitting};
-use crate::ids::write_id;
+use crate::ids::ordinary_id;
+use crate::ids::write_ordinary_id;
 use octets::w8;
+use panel::FileForm;
 use panel::ItemId;
 use panel::PropertyPosition;
+use panel::WideItemId;
 
 // The positions of the boxes of one role, one after the other: none, one or more.
 pub struct Run {
@@ -74,32 +77,49 @@ pub fn write_runs(
     write_run(out, b, three, is_essential)
 }
 
-// The head of an entry: the item's id and the count of its associations.
-pub fn write_association_head(out: &mut [u8], at: usize, id: ItemId, count: u8) -> usize
+// The head of an entry in the ordinary form: the item's id and the count of its associations.
+pub fn write_ordinary_head(out: &mut [u8], at: usize, id: ItemId, count: u8) -> usize
     requires { ⌜ at + 3 ≤ length (now out) ⌝ }
     ensures { λ r. ⌜ Wrote (now (out .entry)) at 3 (be 2 (id .0) ‖ be 1 count) (now (out .exit)) r ⌝ }
 {
-    let a = write_id(out, at, id);
+    let a = write_ordinary_id(out, at, id);
     w8(out, a, count)
+}
+
+// The head of an entry as the form has it.
+pub fn write_association_head(
+    out: &mut [u8],
+    at: usize,
+    form: FileForm,
+    id: WideItemId,
+    count: u8,
+) -> usize
+    requires { ⌜ at + (form-of form .id + 1) ≤ length (now out) ⌝ }
+    ensures { λ r. ⌜ Wrote (now (out .entry)) at (form-of form .id + 1) (be (form-of form .id) (id .0) ‖ be 1 count) (now (out .exit)) r ⌝ }
+{
+    match form {
+        FileForm::Ordinary => write_ordinary_head(out, at, ordinary_id(id), count),
+    }
 }
 
 // A tile's entry: three roles, all essential.
 pub fn write_tile_association(
     out: &mut [u8],
     at: usize,
-    id: ItemId,
+    form: FileForm,
+    id: WideItemId,
     one: Run,
     two: Run,
     three: Run,
 ) -> usize
-    requires { ⌜ at + (3 + (one .count + (two .count + three .count))) ≤ length (now out) ⌝ }
+    requires { ⌜ at + (form-of form .id + 1 + (one .count + (two .count + three .count))) ≤ length (now out) ⌝ }
     requires { ⌜ one .count + (two .count + three .count) ≤ 255 ⌝ }
     requires { ⌜ Fitting one ⌝ }
     requires { ⌜ Fitting two ⌝ }
     requires { ⌜ Fitting three ⌝ }
-    ensures { λ r. ⌜ Wrote (now (out .entry)) at (3 + (one .count + (two .count + three .count))) (association ordinary (id .0 with essential (places one) ‖ essential (places two) ‖ essential (places three))) (now (out .exit)) r ⌝ }
+    ensures { λ r. ⌜ Wrote (now (out .entry)) at (form-of form .id + 1 + (one .count + (two .count + three .count))) (association (form-of form) (id .0 with essential (places one) ‖ essential (places two) ‖ essential (places three))) (now (out .exit)) r ⌝ }
 {
-    let a = write_association_head(out, at, id, one.count + (two.count + three.count));
+    let a = write_association_head(out, at, form, id, one.count + (two.count + three.count));
     write_runs(out, a, one, two, three, true)
 }
 
@@ -107,25 +127,26 @@ pub fn write_tile_association(
 pub fn write_tile_associations(
     out: &mut [u8],
     at: usize,
-    first: ItemId,
+    form: FileForm,
+    first: WideItemId,
     n: u32,
     one: Run,
     two: Run,
     three: Run,
 ) -> usize
-    requires { ⌜ at + (3 + (one .count + (two .count + three .count))) * n ≤ length (now out) ⌝ }
-    requires { ⌜ first .0 + n ≤ 65535 ⌝ }
+    requires { ⌜ at + (form-of form .id + 1 + (one .count + (two .count + three .count))) * n ≤ length (now out) ⌝ }
+    requires { ⌜ first .0 + n < 4294967296 ⌝ }
     requires { ⌜ one .count + (two .count + three .count) ≤ 255 ⌝ }
     requires { ⌜ Fitting one ⌝ }
     requires { ⌜ Fitting two ⌝ }
     requires { ⌜ Fitting three ⌝ }
-    ensures { λ r. ⌜ Wrote (now (out .entry)) at ((3 + (one .count + (two .count + three .count))) * n) (flatMap (association ordinary) (each (first .0) n (essential (places one) ‖ essential (places two) ‖ essential (places three)))) (now (out .exit)) r ⌝ }
+    ensures { λ r. ⌜ Wrote (now (out .entry)) at ((form-of form .id + 1 + (one .count + (two .count + three .count))) * n) (flatMap (association (form-of form)) (each (first .0) n (essential (places one) ‖ essential (places two) ‖ essential (places three)))) (now (out .exit)) r ⌝ }
 {
     let mut left = n;
     let mut a = at;
     let mut id = first.0;
     while 0 < left {
-        a = write_tile_association(out, a, ItemId(id), one, two, three);
+        a = write_tile_association(out, a, form, WideItemId(id), one, two, three);
         id += 1;
         left -= 1;
     }

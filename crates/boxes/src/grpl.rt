@@ -1,6 +1,6 @@
 // The box grpl, and the one group in it.
 ghost use mathlib.Core.List.{[], _∷_};
-ghost use Prim.Native.Nat.{_+_, _≤_};
+ghost use Prim.Native.Nat.{_+_, _≤_, _<_};
 ghost use lib.ListN.{length};
 ghost use Rattle.octets.specs.Boxes.{box, boxes};
 ghost use Rattle.octets.specs.Stores.{Boxed};
@@ -8,23 +8,25 @@ ghost use Rattle.panel.specs.File.{altr};
 use octets::w32;
 use octets::write_box;
 use octets::write_fullbox;
-use panel::ItemId;
+use panel::WideItemId;
 
 // altr: a tone map or else a grid is shown; the group's id is the first that no item has.
-pub fn write_altr(out: &mut [u8], at: usize, tone: ItemId, grid: ItemId) -> usize
+pub fn write_altr(out: &mut [u8], at: usize, tone: WideItemId, grid: WideItemId) -> usize
     requires { ⌜ at + 28 ≤ length (now out) ⌝ }
+    requires { ⌜ tone .0 < 4294967295 ⌝ }
     ensures { λ r. ⌜ Boxed (now (out .entry)) at 28 (altr (tone .0) (grid .0) ∷ []) (now (out .exit)) r ⌝ }
 {
     let a = write_fullbox(out, at, 28, b"altr", 0, 0);
-    let b = w32(out, a, tone.0 as u32 + 1);
+    let b = w32(out, a, tone.0 + 1);
     let c = w32(out, b, 2);
-    let d = w32(out, c, tone.0 as u32);
-    w32(out, d, grid.0 as u32)
+    let d = w32(out, c, tone.0);
+    w32(out, d, grid.0)
 }
 
 // grpl: one group.
-pub fn write_grpl(out: &mut [u8], at: usize, tone: ItemId, grid: ItemId) -> usize
+pub fn write_grpl(out: &mut [u8], at: usize, tone: WideItemId, grid: WideItemId) -> usize
     requires { ⌜ at + 36 ≤ length (now out) ⌝ }
+    requires { ⌜ tone .0 < 4294967295 ⌝ }
     ensures { λ r. ⌜ Boxed (now (out .entry)) at 36 (box "grpl" (boxes (altr (tone .0) (grid .0) ∷ [])) ∷ []) (now (out .exit)) r ⌝ }
 {
     let a = write_box(out, at, 36, b"grpl");

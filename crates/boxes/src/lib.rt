@@ -3,6 +3,7 @@
 // Each writes at a position of a lent buffer, answers the position behind what it wrote, and is proved equal to its definition in `panel`.
 
 pub mod association;
+pub mod form;
 pub mod ftyp;
 pub mod grpl;
 pub mod hdlr;

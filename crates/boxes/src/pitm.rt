@@ -5,15 +5,18 @@ ghost use lib.ListN.{length};
 ghost use Rattle.octets.specs.Numbers.{be};
 ghost use Rattle.octets.specs.Boxes.{full};
 ghost use Rattle.octets.specs.Stores.{Boxed};
+ghost use Rattle.panel.specs.Forms.{form-of};
+use crate::form::ids_bytes;
+use crate::form::write_item_box;
 use crate::ids::write_id;
-use octets::write_fullbox;
-use panel::ItemId;
+use panel::FileForm;
+use panel::WideItemId;
 
 // pitm: the primary item's id.
-pub fn write_pitm(out: &mut [u8], at: usize, id: ItemId) -> usize
-    requires { ⌜ at + 14 ≤ length (now out) ⌝ }
-    ensures { λ r. ⌜ Boxed (now (out .entry)) at 14 (full "pitm" 0 0 (be 2 (id .0)) ∷ []) (now (out .exit)) r ⌝ }
+pub fn write_pitm(out: &mut [u8], at: usize, form: FileForm, id: WideItemId) -> usize
+    requires { ⌜ at + (12 + form-of form .id) ≤ length (now out) ⌝ }
+    ensures { λ r. ⌜ Boxed (now (out .entry)) at (12 + form-of form .id) (full "pitm" (form-of form .step) 0 (be (form-of form .id) (id .0)) ∷ []) (now (out .exit)) r ⌝ }
 {
-    let a = write_fullbox(out, at, 14, b"pitm", 0, 0);
-    write_id(out, a, id)
+    let a = write_item_box(out, at, form, 12 + ids_bytes(form, 1), b"pitm", 0, 0);
+    write_id(out, a, form, id)
 }

@@ -1,50 +1,74 @@
 // The references of iref.
-ghost use mathlib.Core.List.{[], _∷_};
+ghost use mathlib.Core.List.{[], _∷_, flatMap};
 ghost use Prim.Native.Nat.{_+_, _*_, _≤_};
 ghost use lib.ListN.{length};
 ghost use Rattle.octets.specs.Numbers.{_‖_, be};
 ghost use Rattle.octets.specs.Boxes.{box-of};
 ghost use Rattle.octets.specs.Stores.{Boxed};
-ghost use Rattle.panel.specs.Items.{ordinary, ids-from};
+ghost use Rattle.panel.specs.Items.{ids-from};
+ghost use Rattle.panel.specs.Forms.{form-of};
 ghost use Rattle.panel.specs.Iref.{reference};
-use crate::ids::write_count;
+use crate::form::ids_bytes;
 use crate::ids::write_id;
 use crate::ids::write_ids;
 use octets::w16;
 use octets::write_box;
-use panel::ItemId;
+use panel::FileForm;
+use panel::WideItemId;
 
 // From one item to another.
-pub fn write_ref(out: &mut [u8], at: usize, kind: &[u8; 4], from: ItemId, to: ItemId) -> usize
-    requires { ⌜ at + 14 ≤ length (now out) ⌝ }
-    ensures { λ r. ⌜ Boxed (now (out .entry)) at 14 (box-of (now (kind .entry)) (be 2 (from .0) ‖ be 2 1 ‖ be 2 (to .0)) ∷ []) (now (out .exit)) r ⌝ }
+pub fn write_ref(
+    out: &mut [u8],
+    at: usize,
+    form: FileForm,
+    kind: &[u8; 4],
+    from: WideItemId,
+    to: WideItemId,
+) -> usize
+    requires { ⌜ at + (10 + 2 * form-of form .id) ≤ length (now out) ⌝ }
+    ensures { λ r. ⌜ Boxed (now (out .entry)) at (10 + 2 * form-of form .id) (box-of (now (kind .entry)) (be (form-of form .id) (from .0) ‖ be 2 1 ‖ flatMap (be (form-of form .id)) (to .0 ∷ [])) ∷ []) (now (out .exit)) r ⌝ }
 {
-    let a = write_box(out, at, 14, kind);
-    let b = write_id(out, a, from);
+    let a = write_box(out, at, 10 + ids_bytes(form, 2), kind);
+    let b = write_id(out, a, form, from);
     let c = w16(out, b, 1);
-    write_id(out, c, to)
+    write_id(out, c, form, to)
 }
 
 // dimg from one item to two others.
-pub fn write_dimg_pair(out: &mut [u8], at: usize, from: ItemId, one: ItemId, two: ItemId) -> usize
-    requires { ⌜ at + 16 ≤ length (now out) ⌝ }
-    ensures { λ r. ⌜ Boxed (now (out .entry)) at 16 (reference ordinary "dimg" (from .0) (one .0 ∷ two .0 ∷ []) ∷ []) (now (out .exit)) r ⌝ }
+pub fn write_dimg_pair(
+    out: &mut [u8],
+    at: usize,
+    form: FileForm,
+    from: WideItemId,
+    one: WideItemId,
+    two: WideItemId,
+) -> usize
+    requires { ⌜ at + (10 + 3 * form-of form .id) ≤ length (now out) ⌝ }
+    ensures { λ r. ⌜ Boxed (now (out .entry)) at (10 + 3 * form-of form .id) (reference (form-of form) "dimg" (from .0) (one .0 ∷ two .0 ∷ []) ∷ []) (now (out .exit)) r ⌝ }
 {
-    let a = write_box(out, at, 16, b"dimg");
-    let b = write_id(out, a, from);
+    let a = write_box(out, at, 10 + ids_bytes(form, 3), b"dimg");
+    let b = write_id(out, a, form, from);
     let c = w16(out, b, 2);
-    let d = write_id(out, c, one);
-    write_id(out, d, two)
+    let d = write_id(out, c, form, one);
+    write_id(out, d, form, two)
 }
 
 // dimg from a grid to its n tiles.
-pub fn write_dimg_tiles(out: &mut [u8], at: usize, from: ItemId, first: ItemId, n: u32) -> usize
-    requires { ⌜ at + (12 + 2 * n) ≤ length (now out) ⌝ }
-    requires { ⌜ first .0 + n ≤ 65535 ⌝ }
-    ensures { λ r. ⌜ Boxed (now (out .entry)) at (12 + 2 * n) (reference ordinary "dimg" (from .0) (ids-from (first .0) n) ∷ []) (now (out .exit)) r ⌝ }
+pub fn write_dimg_tiles(
+    out: &mut [u8],
+    at: usize,
+    form: FileForm,
+    from: WideItemId,
+    first: WideItemId,
+    n: u32,
+) -> usize
+    requires { ⌜ at + (10 + form-of form .id + form-of form .id * n) ≤ length (now out) ⌝ }
+    requires { ⌜ n ≤ 65535 ⌝ }
+    requires { ⌜ first .0 ≤ 131072 ⌝ }
+    ensures { λ r. ⌜ Boxed (now (out .entry)) at (10 + form-of form .id + form-of form .id * n) (reference (form-of form) "dimg" (from .0) (ids-from (first .0) n) ∷ []) (now (out .exit)) r ⌝ }
 {
-    let a = write_box(out, at, 12 + 2 * n, b"dimg");
-    let b = write_id(out, a, from);
-    let c = write_count(out, b, n);
-    write_ids(out, c, first, n)
+    let a = write_box(out, at, 10 + ids_bytes(form, n + 1), b"dimg");
+    let b = write_id(out, a, form, from);
+    let c = w16(out, b, n as u16);
+    write_ids(out, c, form, first, n)
 }

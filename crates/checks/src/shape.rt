@@ -75,7 +75,7 @@ pub fn shape_of(panel: Panel, tiles: u32) -> Shape
     }
 }
 
-// The last item id, which check 4 wants to fit in 16 bits.
+// The last item id, which check 4 asks for.
 pub fn last_id(s: Shape) -> u32
     requires { ⌜ s .tiles ≤ 65536 ⌝ }
     ensures { λ r. ⌜ r ≡ last-id s ⌝ }

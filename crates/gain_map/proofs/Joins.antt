@@ -5,17 +5,17 @@ use mathlib.Core.List.{[], _∷_, _++_, flatMap}
 use Prim.Native.Nat.{ℕ, _+_}
 use native.Mathlib.Omega.{arith}
 use Rattle.octets.specs.Numbers.{_‖_}
-use Rattle.panel.specs.Items.{ordinary, given, gain-id}
+use Rattle.panel.specs.Items.{Form, given, gain-id}
 use Rattle.panel.specs.Iloc.{entry, located}
 use Rattle.panel.specs.declared.Shape.{Shape}
 use Rattle.locations.specs.Spans.{spans}
 use Rattle.boxes.specs.Runs.{Shaped}
 use Rattle.locations.proofs.Spans.{entries-append}
 
-pub tone-behind : (s : Shape) (o a b t : ℕ)
-    → flatMap (entry ordinary) (located (gain-id s) 0 (spans o (a ∷ b ∷ []))) ++ flatMap (entry ordinary) (located (gain-id s + 2) 0 (spans (o + a + b) (given (s .tone) (t ∷ []))))
-    ≡ flatMap (entry ordinary) (located (gain-id s) 0 (spans o ((a ∷ b ∷ []) ‖ given (s .tone) (t ∷ []))))
-tone-behind s o a b t = entries-append ordinary (gain-id s) o (a ∷ b ∷ []) (given (s .tone) (t ∷ [])) refl (omega arith)
+pub tone-behind : (f : Form) (s : Shape) (o a b t : ℕ)
+    → flatMap (entry f) (located (gain-id s) 0 (spans o (a ∷ b ∷ []))) ++ flatMap (entry f) (located (gain-id s + 2) 0 (spans (o + a + b) (given (s .tone) (t ∷ []))))
+    ≡ flatMap (entry f) (located (gain-id s) 0 (spans o ((a ∷ b ∷ []) ‖ given (s .tone) (t ∷ []))))
+tone-behind f s o a b t = entries-append f (gain-id s) o (a ∷ b ∷ []) (given (s .tone) (t ∷ [])) refl (omega arith)
 
 pub tone-absent : (s : Shape) → Shaped s → s .gain ≡ false → s .tone ≡ false
 tone-absent s h e = go (s .tone) (h .toned)

@@ -5,7 +5,8 @@ ghost use Prim.Native.Nat.{_+_, _≤_};
 ghost use lib.ListN.{length};
 ghost use Rattle.octets.specs.Numbers.{_‖_};
 ghost use Rattle.octets.specs.Stores.{Wrote};
-ghost use Rattle.panel.specs.Items.{ordinary, given, gain-id};
+ghost use Rattle.panel.specs.Items.{given, gain-id};
+ghost use Rattle.panel.specs.Forms.{form-of};
 ghost use Rattle.panel.specs.Ipma.{_with_, association};
 ghost use Rattle.boxes.specs.Runs.{Fitting, Shaped};
 ghost use Rattle.places.specs.Places.{Image-fits, Tone-fits};
@@ -15,9 +16,10 @@ use boxes::association::Run;
 use boxes::association::write_association_head;
 use boxes::association::write_run;
 use boxes::association::write_runs;
-use gain_items::image_id;
-use gain_items::tmap_id;
+use boxes::ids::gain_id;
+use panel::FileForm;
 use panel::Shape;
+use panel::WideItemId;
 use places::associations::image_count;
 use places::associations::tone_count;
 use places::positions::ImagePlaces;
@@ -47,39 +49,47 @@ fn write_image_list(out: &mut [u8], at: usize, p: ImagePlaces, irot: Run, imir: 
 fn write_image_association(
     out: &mut [u8],
     at: usize,
+    form: FileForm,
     s: Shape,
     p: ImagePlaces,
     irot: Run,
     imir: Run,
 ) -> usize
-    requires { ⌜ at + cond (s .gain) (3 + image-count p irot imir) 0 ≤ length (now out) ⌝ }
+    requires { ⌜ at + cond (s .gain) (form-of form .id + 1 + image-count p irot imir) 0 ≤ length (now out) ⌝ }
     requires { ⌜ Shaped s ⌝ }
     requires { ⌜ Image-fits p ⌝ }
     requires { ⌜ Fitting irot ⌝ }
     requires { ⌜ Fitting imir ⌝ }
-    ensures { λ r. ⌜ Wrote (now (out .entry)) at (cond (s .gain) (3 + image-count p irot imir) 0) (flatMap (association ordinary) (given (s .gain) ((gain-id s with image-list p irot imir) ∷ []))) (now (out .exit)) r ⌝ }
+    ensures { λ r. ⌜ Wrote (now (out .entry)) at (cond (s .gain) (form-of form .id + 1 + image-count p irot imir) 0) (flatMap (association (form-of form)) (given (s .gain) ((gain-id s with image-list p irot imir) ∷ []))) (now (out .exit)) r ⌝ }
 {
     if s.gain {
-        let id = image_id(s);
-        let a = write_association_head(out, at, id, image_count(p, irot, imir));
+        let id = gain_id(s);
+        let a = write_association_head(out, at, form, id, image_count(p, irot, imir));
         return write_image_list(out, a, p, irot, imir);
     }
     at
 }
 
 // The tone map's entry, where there is one. None of its properties is essential.
-fn write_tone_association(out: &mut [u8], at: usize, s: Shape, p: TonePlaces) -> usize
-    requires { ⌜ at + cond (s .tone) (3 + tone-count p) 0 ≤ length (now out) ⌝ }
+fn write_tone_association(
+    out: &mut [u8],
+    at: usize,
+    form: FileForm,
+    s: Shape,
+    p: TonePlaces,
+) -> usize
+    requires { ⌜ at + cond (s .tone) (form-of form .id + 1 + tone-count p) 0 ≤ length (now out) ⌝ }
     requires { ⌜ Shaped s ⌝ }
     requires { ⌜ Tone-fits p ⌝ }
-    ensures { λ r. ⌜ Wrote (now (out .entry)) at (cond (s .tone) (3 + tone-count p) 0) (flatMap (association ordinary) (given (s .tone) ((gain-id s + 2 with tone-list p) ∷ []))) (now (out .exit)) r ⌝ }
+    ensures { λ r. ⌜ Wrote (now (out .entry)) at (cond (s .tone) (form-of form .id + 1 + tone-count p) 0) (flatMap (association (form-of form)) (given (s .tone) ((gain-id s + 2 with tone-list p) ∷ []))) (now (out .exit)) r ⌝ }
 {
     let ispe = p.ispe;
     let pixi = p.pixi;
     let colr = p.colr;
     if s.tone {
-        let id = tmap_id(s);
-        let a = write_association_head(out, at, id, tone_count(p));
+        let image = gain_id(s);
+        let id = WideItemId(image.0 + 2);
+        let a = write_association_head(out, at, form, id, tone_count(p));
         return write_runs(out, a, ispe, pixi, colr, false);
     }
     at
@@ -89,20 +99,21 @@ fn write_tone_association(out: &mut [u8], at: usize, s: Shape, p: TonePlaces) ->
 pub fn write_ipma(
     out: &mut [u8],
     at: usize,
+    form: FileForm,
     s: Shape,
     image: ImagePlaces,
     tone: TonePlaces,
     irot: Run,
     imir: Run,
 ) -> usize
-    requires { ⌜ at + (cond (s .gain) (3 + image-count image irot imir) 0 + cond (s .tone) (3 + tone-count tone) 0) ≤ length (now out) ⌝ }
+    requires { ⌜ at + (cond (s .gain) (form-of form .id + 1 + image-count image irot imir) 0 + cond (s .tone) (form-of form .id + 1 + tone-count tone) 0) ≤ length (now out) ⌝ }
     requires { ⌜ Shaped s ⌝ }
     requires { ⌜ Image-fits image ⌝ }
     requires { ⌜ Tone-fits tone ⌝ }
     requires { ⌜ Fitting irot ⌝ }
     requires { ⌜ Fitting imir ⌝ }
-    ensures { λ r. ⌜ Wrote (now (out .entry)) at (cond (s .gain) (3 + image-count image irot imir) 0 + cond (s .tone) (3 + tone-count tone) 0) (flatMap (association ordinary) (given (s .gain) ((gain-id s with image-list image irot imir) ∷ []) ‖ given (s .tone) ((gain-id s + 2 with tone-list tone) ∷ []))) (now (out .exit)) r ⌝ }
+    ensures { λ r. ⌜ Wrote (now (out .entry)) at (cond (s .gain) (form-of form .id + 1 + image-count image irot imir) 0 + cond (s .tone) (form-of form .id + 1 + tone-count tone) 0) (flatMap (association (form-of form)) (given (s .gain) ((gain-id s with image-list image irot imir) ∷ []) ‖ given (s .tone) ((gain-id s + 2 with tone-list tone) ∷ []))) (now (out .exit)) r ⌝ }
 {
-    let a = write_image_association(out, at, s, image, irot, imir);
-    write_tone_association(out, a, s, tone)
+    let a = write_image_association(out, at, form, s, image, irot, imir);
+    write_tone_association(out, a, form, s, tone)
 }

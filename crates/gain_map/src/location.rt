@@ -1,20 +1,20 @@
 // The gain map's entries in iloc.
-ghost use mathlib.Core.Path.{_≡_};
-ghost use mathlib.Core.Bool.{true, cond};
+ghost use mathlib.Core.Bool.{cond};
 ghost use mathlib.Core.List.{[], _∷_, flatMap};
-ghost use Prim.Native.Nat.{_+_, _≤_, _<_};
+ghost use Prim.Native.Nat.{_+_, _*_, _≤_, _<_};
 ghost use lib.ListN.{length};
 ghost use Rattle.octets.specs.Stores.{Wrote};
-ghost use Rattle.panel.specs.Items.{ordinary, given, gain-id};
+ghost use Rattle.panel.specs.Items.{given, gain-id};
+ghost use Rattle.panel.specs.Forms.{form-of};
 ghost use Rattle.panel.specs.Iloc.{entry, located};
 ghost use Rattle.locations.specs.Spans.{spans};
 ghost use Rattle.boxes.specs.Runs.{Shaped};
 ghost use Rattle.gain_map.specs.Sizes.{sizes};
-use gain_items::image_id;
-use gain_items::tmap_id;
-use gain_items::xmp_id;
+use boxes::ids::gain_id;
 use locations::write_location;
+use panel::FileForm;
 use panel::Shape;
+use panel::WideItemId;
 
 // The lengths of the gain map's payloads: the sample, the XMP and the tone map, 0 where there is none.
 pub struct PayloadLengths {
@@ -24,14 +24,22 @@ pub struct PayloadLengths {
 }
 
 // The tone map's entry.
-fn write_tone_location(out: &mut [u8], at: usize, s: Shape, offset: u32, size: u32) -> usize
-    requires { ⌜ at + cond (s .tone) 16 0 ≤ length (now out) ⌝ }
+fn write_tone_location(
+    out: &mut [u8],
+    at: usize,
+    form: FileForm,
+    s: Shape,
+    offset: u32,
+    size: u32,
+) -> usize
+    requires { ⌜ at + cond (s .tone) (14 + form-of form .id) 0 ≤ length (now out) ⌝ }
     requires { ⌜ Shaped s ⌝ }
-    ensures { λ r. ⌜ Wrote (now (out .entry)) at (cond (s .tone) 16 0) (flatMap (entry ordinary) (located (gain-id s + 2) 0 (spans offset (given (s .tone) (size ∷ []))))) (now (out .exit)) r ⌝ }
+    ensures { λ r. ⌜ Wrote (now (out .entry)) at (cond (s .tone) (14 + form-of form .id) 0) (flatMap (entry (form-of form)) (located (gain-id s + 2) 0 (spans offset (given (s .tone) (size ∷ []))))) (now (out .exit)) r ⌝ }
 {
     if s.tone {
-        let tone = tmap_id(s);
-        return write_location(out, at, tone, 0, offset, size);
+        let image = gain_id(s);
+        let tone = WideItemId(image.0 + 2);
+        return write_location(out, at, form, tone, 0, offset, size);
     }
     at
 }
@@ -40,41 +48,43 @@ fn write_tone_location(out: &mut [u8], at: usize, s: Shape, offset: u32, size: u
 fn write_image_locations(
     out: &mut [u8],
     at: usize,
+    form: FileForm,
     s: Shape,
     offset: u32,
     sample: u32,
     xmp: u32,
 ) -> usize
-    requires { ⌜ at + 32 ≤ length (now out) ⌝ }
+    requires { ⌜ at + (28 + 2 * form-of form .id) ≤ length (now out) ⌝ }
     requires { ⌜ Shaped s ⌝ }
-    requires { ⌜ s .gain ≡ true ⌝ }
     requires { ⌜ offset + sample < 4294967296 ⌝ }
-    ensures { λ r. ⌜ Wrote (now (out .entry)) at 32 (flatMap (entry ordinary) (located (gain-id s) 0 (spans offset (sample ∷ xmp ∷ [])))) (now (out .exit)) r ⌝ }
+    ensures { λ r. ⌜ Wrote (now (out .entry)) at (28 + 2 * form-of form .id) (flatMap (entry (form-of form)) (located (gain-id s) 0 (spans offset (sample ∷ xmp ∷ [])))) (now (out .exit)) r ⌝ }
 {
-    let image = image_id(s);
-    let second = xmp_id(s);
-    let a = write_location(out, at, image, 0, offset, sample);
-    write_location(out, a, second, 0, offset + sample, xmp)
+    let image = gain_id(s);
+    let second = WideItemId(image.0 + 1);
+    let a = write_location(out, at, form, image, 0, offset, sample);
+    write_location(out, a, form, second, 0, offset + sample, xmp)
 }
 
 // The gain map's entries, whose payloads lie back to back from `offset` on.
 pub fn write_iloc(
     out: &mut [u8],
     at: usize,
+    form: FileForm,
     s: Shape,
     offset: u32,
     lengths: PayloadLengths,
 ) -> usize
-    requires { ⌜ at + (cond (s .gain) 32 0 + cond (s .tone) 16 0) ≤ length (now out) ⌝ }
+    requires { ⌜ at + (cond (s .gain) (28 + 2 * form-of form .id) 0 + cond (s .tone) (14 + form-of form .id) 0) ≤ length (now out) ⌝ }
     requires { ⌜ Shaped s ⌝ }
     requires { ⌜ offset + (lengths .sample + lengths .xmp) < 4294967296 ⌝ }
-    ensures { λ r. ⌜ Wrote (now (out .entry)) at (cond (s .gain) 32 0 + cond (s .tone) 16 0) (flatMap (entry ordinary) (located (gain-id s) 0 (spans offset (sizes s lengths)))) (now (out .exit)) r ⌝ }
+    ensures { λ r. ⌜ Wrote (now (out .entry)) at (cond (s .gain) (28 + 2 * form-of form .id) 0 + cond (s .tone) (14 + form-of form .id) 0) (flatMap (entry (form-of form)) (located (gain-id s) 0 (spans offset (sizes s lengths)))) (now (out .exit)) r ⌝ }
 {
     if s.gain {
-        let a = write_image_locations(out, at, s, offset, lengths.sample, lengths.xmp);
+        let a = write_image_locations(out, at, form, s, offset, lengths.sample, lengths.xmp);
         return write_tone_location(
             out,
             a,
+            form,
             s,
             offset + lengths.sample + lengths.xmp,
             lengths.tmap,

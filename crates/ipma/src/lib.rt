@@ -4,7 +4,7 @@ ghost use mathlib.Core.List.{[], _∷_, flatMap};
 ghost use Prim.Native.Nat.{_+_, _≤_};
 ghost use lib.ListN.{length};
 ghost use Rattle.octets.specs.Stores.{Wrote, Boxed};
-ghost use Rattle.panel.specs.Items.{ordinary};
+ghost use Rattle.panel.specs.Forms.{form-of};
 ghost use Rattle.panel.specs.Ipma.{_with_, association, associations, ipma};
 ghost use Rattle.length.specs.Properties.{pictures};
 ghost use Rattle.places.specs.Roles.{its-of, Fit};
@@ -15,14 +15,15 @@ ghost use Rattle.places.specs.Lists.{grid-list, color-entries, alpha-entries};
 use boxes::association::Run;
 use boxes::association::write_association_head;
 use boxes::association::write_tile_associations;
+use boxes::form::write_item_box;
 use boxes::ids::alpha_grid_id;
 use boxes::ids::alpha_tile_base;
 use boxes::ids::color_grid_id;
 use grid_lists::write_grid_list;
 use octets::w32;
-use octets::write_fullbox;
-use panel::ItemId;
+use panel::FileForm;
 use panel::Shape;
+use panel::WideItemId;
 use places::Places;
 use places::associations::grid_count;
 use places::pictures::AlphaPlaces;
@@ -34,21 +35,22 @@ use places::pictures::turns_of;
 fn write_grid_association(
     out: &mut [u8],
     at: usize,
-    id: ItemId,
+    form: FileForm,
+    id: WideItemId,
     full: Run,
     two: Run,
     is_essential: bool,
     three: Run,
     o: OptionPlaces,
 ) -> usize
-    requires { ⌜ at + (3 + grid-count full two three o) ≤ length (now out) ⌝ }
+    requires { ⌜ at + (form-of form .id + 1 + grid-count full two three o) ≤ length (now out) ⌝ }
     requires { ⌜ Fitting full ⌝ }
     requires { ⌜ Fitting two ⌝ }
     requires { ⌜ Fitting three ⌝ }
     requires { ⌜ Options-fit o ⌝ }
-    ensures { λ r. ⌜ Wrote (now (out .entry)) at (3 + grid-count full two three o) (flatMap (association ordinary) ((id .0 with grid-list full two «is_essential» three o) ∷ [])) (now (out .exit)) r ⌝ }
+    ensures { λ r. ⌜ Wrote (now (out .entry)) at (form-of form .id + 1 + grid-count full two three o) (flatMap (association (form-of form)) ((id .0 with grid-list full two «is_essential» three o) ∷ [])) (now (out .exit)) r ⌝ }
 {
-    let a = write_association_head(out, at, id, grid_count(full, two, three, o));
+    let a = write_association_head(out, at, form, id, grid_count(full, two, three, o));
     write_grid_list(out, a, full, two, is_essential, three, o)
 }
 
@@ -56,15 +58,16 @@ fn write_grid_association(
 fn write_color_associations(
     out: &mut [u8],
     at: usize,
+    form: FileForm,
     s: Shape,
     c: ColorPlaces,
     o: OptionPlaces,
 ) -> usize
-    requires { ⌜ at + color-entries-size s c o ≤ length (now out) ⌝ }
+    requires { ⌜ at + color-entries-size (form-of form) s c o ≤ length (now out) ⌝ }
     requires { ⌜ Shaped s ⌝ }
     requires { ⌜ Color-fits c ⌝ }
     requires { ⌜ Options-fit o ⌝ }
-    ensures { λ r. ⌜ Wrote (now (out .entry)) at (color-entries-size s c o) (flatMap (association ordinary) (color-entries s c o)) (now (out .exit)) r ⌝ }
+    ensures { λ r. ⌜ Wrote (now (out .entry)) at (color-entries-size (form-of form) s c o) (flatMap (association (form-of form)) (color-entries s c o)) (now (out .exit)) r ⌝ }
 {
     let hvcc = c.hvcc;
     let tile = c.ispe_tile;
@@ -72,25 +75,26 @@ fn write_color_associations(
     let colr = c.colr;
     let pixi = c.pixi;
     let grid = color_grid_id(s);
-    let a = write_tile_associations(out, at, ItemId(1), s.tiles, hvcc, tile, colr);
-    write_grid_association(out, a, grid, full, colr, true, pixi, o)
+    let a = write_tile_associations(out, at, form, WideItemId(1), s.tiles, hvcc, tile, colr);
+    write_grid_association(out, a, form, grid, full, colr, true, pixi, o)
 }
 
 // The entries of the alpha picture: its tiles with hvcC and ispe, both essential, and its grid, for which o has the transforms alone.
 fn write_alpha_associations(
     out: &mut [u8],
     at: usize,
+    form: FileForm,
     s: Shape,
     c: ColorPlaces,
     a: AlphaPlaces,
     o: OptionPlaces,
 ) -> usize
-    requires { ⌜ at + alpha-entries-size s c a o ≤ length (now out) ⌝ }
+    requires { ⌜ at + alpha-entries-size (form-of form) s c a o ≤ length (now out) ⌝ }
     requires { ⌜ Shaped s ⌝ }
     requires { ⌜ Color-fits c ⌝ }
     requires { ⌜ Alpha-fits a ⌝ }
     requires { ⌜ Options-fit o ⌝ }
-    ensures { λ r. ⌜ Wrote (now (out .entry)) at (alpha-entries-size s c a o) (flatMap (association ordinary) (alpha-entries s c a o)) (now (out .exit)) r ⌝ }
+    ensures { λ r. ⌜ Wrote (now (out .entry)) at (alpha-entries-size (form-of form) s c a o) (flatMap (association (form-of form)) (alpha-entries s c a o)) (now (out .exit)) r ⌝ }
 {
     let hvcc = a.hvcc;
     let pixi = a.pixi;
@@ -104,18 +108,26 @@ fn write_alpha_associations(
     };
     let first = alpha_tile_base(s);
     let grid = alpha_grid_id(s);
-    let b = write_tile_associations(out, at, first, s.tiles, hvcc, tile, none);
-    write_grid_association(out, b, grid, full, pixi, false, auxc, o)
+    let b = write_tile_associations(out, at, form, first, s.tiles, hvcc, tile, none);
+    write_grid_association(out, b, form, grid, full, pixi, false, auxc, o)
 }
 
 // ipma, with so many entries.
-pub fn write_ipma(out: &mut [u8], at: usize, size: u32, count: u32, s: Shape, y: Places) -> usize
-    requires { ⌜ at + ipma-bytes s y ≤ length (now out) ⌝ }
+pub fn write_ipma(
+    out: &mut [u8],
+    at: usize,
+    form: FileForm,
+    size: u32,
+    count: u32,
+    s: Shape,
+    y: Places,
+) -> usize
+    requires { ⌜ at + ipma-bytes (form-of form) s y ≤ length (now out) ⌝ }
     requires { ⌜ Shaped s ⌝ }
     requires { ⌜ Fit y ⌝ }
-    requires { ⌜ size ≡ ipma-bytes s y ⌝ }
+    requires { ⌜ size ≡ ipma-bytes (form-of form) s y ⌝ }
     requires { ⌜ count ≡ pictures s ⌝ }
-    ensures { λ r. ⌜ Boxed (now (out .entry)) at (ipma-bytes s y) (ipma ordinary (associations s (its-of y)) ∷ []) (now (out .exit)) r ⌝ }
+    ensures { λ r. ⌜ Boxed (now (out .entry)) at (ipma-bytes (form-of form) s y) (ipma (form-of form) (associations s (its-of y)) ∷ []) (now (out .exit)) r ⌝ }
 {
     let color = y.color;
     let alpha = y.alpha;
@@ -125,9 +137,9 @@ pub fn write_ipma(out: &mut [u8], at: usize, size: u32, count: u32, s: Shape, y:
     let irot = options.irot;
     let imir = options.imir;
     let turns = turns_of(options);
-    let a = write_fullbox(out, at, size, b"ipma", 0, 0);
+    let a = write_item_box(out, at, form, size, b"ipma", 0, 0);
     let b = w32(out, a, count);
-    let c = write_color_associations(out, b, s, color, options);
-    let d = write_alpha_associations(out, c, s, color, alpha, turns);
-    gain_map::association::write_ipma(out, d, s, image, tone, irot, imir)
+    let c = write_color_associations(out, b, form, s, color, options);
+    let d = write_alpha_associations(out, c, form, s, color, alpha, turns);
+    gain_map::association::write_ipma(out, d, form, s, image, tone, irot, imir)
 }

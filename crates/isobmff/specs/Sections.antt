@@ -6,7 +6,7 @@ use Prim.Native.Nat.{ℕ, _+_, _<_}
 use Rattle.octets.specs.Numbers.{_‖_}
 use Rattle.octets.specs.Boxes.{Box, box, boxes}
 use Rattle.panel.specs.Panel.{Panel}
-use Rattle.panel.specs.Items.{ordinary}
+use Rattle.panel.specs.Items.{Form}
 use Rattle.panel.specs.Iloc.{Location, iloc}
 use Rattle.panel.specs.Iinf.{iinf}
 use Rattle.panel.specs.Iref.{iref}
@@ -25,39 +25,39 @@ use Rattle.places.specs.Counts.{ipma-bytes}
 use Rattle.places.specs.declared.Places.{Places}
 
 -- hdlr to iref
-abbrev pub item-boxes : Shape → List Location → List Box
-item-boxes s l = hdlr ∷ pitm ordinary s ∷ iloc ordinary l ∷ iinf ordinary s ∷ iref ordinary s ∷ []
+abbrev pub item-boxes : Form → Shape → List Location → List Box
+item-boxes f s l = hdlr ∷ pitm f s ∷ iloc f l ∷ iinf f s ∷ iref f s ∷ []
 
-abbrev pub item-boxes-size : Shape → ℕ
-item-boxes-size s = 33 + (14 + ((8 + iloc-size ordinary s) + ((8 + iinf-size ordinary s) + (8 + iref-size ordinary s))))
+abbrev pub item-boxes-size : Form → Shape → ℕ
+item-boxes-size f s = 33 + (12 + f .id + ((8 + iloc-size f s) + ((8 + iinf-size f s) + (8 + iref-size f s))))
 
 -- the sizes that a layout has for them
-pub record Item-sizes (y : Layout) : Type 0 where
+pub record Item-sizes (f : Form) (y : Layout) : Type 0 where
   pub shaped : Shaped (y .shape)
-  pub iloc : y .iloc ≡ 8 + iloc-size ordinary (y .shape)
-  pub iinf : y .iinf ≡ 8 + iinf-size ordinary (y .shape)
-  pub iref : y .iref ≡ 8 + iref-size ordinary (y .shape)
+  pub iloc : y .iloc ≡ 8 + iloc-size f (y .shape)
+  pub iinf : y .iinf ≡ 8 + iinf-size f (y .shape)
+  pub iref : y .iref ≡ 8 + iref-size f (y .shape)
 
 -- iprp from its two boxes
-abbrev pub iprp-of : Panel → Shape → Places → Box
-iprp-of p s y = box "iprp" (boxes (ipco p ∷ ipma ordinary (associations s (its-of y)) ∷ []))
+abbrev pub iprp-of : Form → Panel → Shape → Places → Box
+iprp-of f p s y = box "iprp" (boxes (ipco p ∷ ipma f (associations s (its-of y)) ∷ []))
 
-abbrev pub iprp-bytes : Panel → Shape → Places → ℕ
-iprp-bytes p s y = 8 + ((8 + ipco-size p) + ipma-bytes s y)
+abbrev pub iprp-bytes : Form → Panel → Shape → Places → ℕ
+iprp-bytes f p s y = 8 + ((8 + ipco-size p) + ipma-bytes f s y)
 
 abbrev pub idat-bytes : GridDims → ℕ
 idat-bytes d = 8 + (descriptor-size d + descriptor-size d)
 
 -- iprp to idat
-abbrev pub property-boxes : Panel → Shape → Places → GridDims → List Box
-property-boxes p s y d = iprp-of p s y ∷ grpl s ‖ idat d ∷ []
+abbrev pub property-boxes : Form → Panel → Shape → Places → GridDims → List Box
+property-boxes f p s y d = iprp-of f p s y ∷ grpl s ‖ idat d ∷ []
 
-abbrev pub property-boxes-size : Panel → Shape → Places → GridDims → ℕ
-property-boxes-size p s y d = iprp-bytes p s y + (cond (s .tone) 36 0 + idat-bytes d)
+abbrev pub property-boxes-size : Form → Panel → Shape → Places → GridDims → ℕ
+property-boxes-size f p s y d = iprp-bytes f p s y + (cond (s .tone) 36 0 + idat-bytes d)
 
-pub record Property-sizes (p : Panel) (y : Layout) (z : Places) (d : GridDims) : Type 0 where
+pub record Property-sizes (f : Form) (p : Panel) (y : Layout) (z : Places) (d : GridDims) : Type 0 where
   pub ipco : y .ipco ≡ 8 + ipco-size p
-  pub ipma : y .ipma ≡ ipma-bytes (y .shape) z
-  pub iprp : y .iprp ≡ iprp-bytes p (y .shape) z
+  pub ipma : y .ipma ≡ ipma-bytes f (y .shape) z
+  pub iprp : y .iprp ≡ iprp-bytes f p (y .shape) z
   pub idat : y .idat ≡ idat-bytes d
   pub short : 8 + ipco-size p < 4294967296

@@ -7,105 +7,111 @@ ghost use lib.ListN.{length};
 ghost use Rattle.octets.specs.Numbers.{_‖_, be, text, total};
 ghost use Rattle.panel.specs.Refusal.{last-id};
 ghost use Rattle.octets.specs.Stores.{Wrote, Boxed};
-ghost use Rattle.panel.specs.Items.{ordinary, given, colour-grid, alpha-tile, alpha-grid, exif-id};
+ghost use Rattle.panel.specs.Items.{given, colour-grid, alpha-tile, alpha-grid, exif-id};
+ghost use Rattle.panel.specs.Forms.{form-of};
 ghost use Rattle.panel.specs.Iloc.{entry, located, iloc};
 ghost use Rattle.length.specs.Size.{iloc-size};
 ghost use Rattle.locations.specs.Spans.{spans, location};
 ghost use Rattle.boxes.specs.Runs.{Shaped};
 ghost use Rattle.isobmff.specs.Locations.{other-sizes, placed};
+use boxes::form::write_count;
+use boxes::form::write_item_box;
 use boxes::ids::alpha_grid_id;
 use boxes::ids::alpha_tile_base;
 use boxes::ids::color_grid_id;
-use boxes::ids::write_count;
+use boxes::ids::exif_id;
 use checks::shape::last_id;
 use gain_map::location::PayloadLengths;
-use items::exif_id;
 use locations::write_location;
 use locations::write_tile_locations;
 use octets::w16;
-use octets::write_fullbox;
-use panel::ItemId;
+use panel::FileForm;
 use panel::Shape;
+use panel::WideItemId;
 
 // The colour tiles' entries, and the colour grid's, whose descriptor is the first in idat.
 fn write_color_locations(
     out: &mut [u8],
     at: usize,
+    form: FileForm,
     s: Shape,
     offset: u32,
     lengths: &[u32],
     descriptor: u32,
 ) -> usize
-    requires { ⌜ at + (16 * length (now lengths) + 16) ≤ length (now out) ⌝ }
+    requires { ⌜ at + ((14 + form-of form .id) * length (now lengths) + (14 + form-of form .id)) ≤ length (now out) ⌝ }
     requires { ⌜ Shaped s ⌝ }
     requires { ⌜ length (now lengths) ≡ s .tiles ⌝ }
     requires { ⌜ offset + total (now lengths) < 4294967296 ⌝ }
-    ensures { λ r. ⌜ Wrote (now (out .entry)) at (16 * length (now (lengths .entry)) + 16) (flatMap (entry ordinary) (located 1 0 (spans offset (now (lengths .entry)))) ‖ entry ordinary (location (colour-grid s) 1 0 descriptor)) (now (out .exit)) r ⌝ }
+    ensures { λ r. ⌜ Wrote (now (out .entry)) at ((14 + form-of form .id) * length (now (lengths .entry)) + (14 + form-of form .id)) (flatMap (entry (form-of form)) (located 1 0 (spans offset (now (lengths .entry)))) ‖ entry (form-of form) (location (colour-grid s) 1 0 descriptor)) (now (out .exit)) r ⌝ }
 {
     let grid = color_grid_id(s);
-    let a = write_tile_locations(out, at, ItemId(1), offset, lengths);
-    write_location(out, a, grid, 1, 0, descriptor)
+    let a = write_tile_locations(out, at, form, WideItemId(1), offset, lengths);
+    write_location(out, a, form, grid, 1, 0, descriptor)
 }
 
 // The alpha tiles' entries, and the alpha grid's, whose descriptor is the second in idat.
 fn write_alpha_locations(
     out: &mut [u8],
     at: usize,
+    form: FileForm,
     s: Shape,
     offset: u32,
     lengths: &[u32],
     descriptor: u32,
 ) -> usize
-    requires { ⌜ at + (16 * length (now lengths) + 16) ≤ length (now out) ⌝ }
+    requires { ⌜ at + ((14 + form-of form .id) * length (now lengths) + (14 + form-of form .id)) ≤ length (now out) ⌝ }
     requires { ⌜ Shaped s ⌝ }
     requires { ⌜ length (now lengths) ≡ s .tiles ⌝ }
     requires { ⌜ offset + total (now lengths) < 4294967296 ⌝ }
-    ensures { λ r. ⌜ Wrote (now (out .entry)) at (16 * length (now (lengths .entry)) + 16) (flatMap (entry ordinary) (located (alpha-tile s) 0 (spans offset (now (lengths .entry)))) ‖ entry ordinary (location (alpha-grid s) 1 descriptor descriptor)) (now (out .exit)) r ⌝ }
+    ensures { λ r. ⌜ Wrote (now (out .entry)) at ((14 + form-of form .id) * length (now (lengths .entry)) + (14 + form-of form .id)) (flatMap (entry (form-of form)) (located (alpha-tile s) 0 (spans offset (now (lengths .entry)))) ‖ entry (form-of form) (location (alpha-grid s) 1 descriptor descriptor)) (now (out .exit)) r ⌝ }
 {
     let first = alpha_tile_base(s);
     let grid = alpha_grid_id(s);
-    let a = write_tile_locations(out, at, first, offset, lengths);
-    write_location(out, a, grid, 1, descriptor, descriptor)
+    let a = write_tile_locations(out, at, form, first, offset, lengths);
+    write_location(out, a, form, grid, 1, descriptor, descriptor)
 }
 
 // The Exif's entry and the gain map's.
 fn write_exif_locations(
     out: &mut [u8],
     at: usize,
+    form: FileForm,
     s: Shape,
     offset: u32,
     exif: u32,
     gain: PayloadLengths,
 ) -> usize
-    requires { ⌜ at + (16 + (cond (s .gain) 32 0 + cond (s .tone) 16 0)) ≤ length (now out) ⌝ }
+    requires { ⌜ at + ((14 + form-of form .id) + (cond (s .gain) (28 + 2 * form-of form .id) 0 + cond (s .tone) (14 + form-of form .id) 0)) ≤ length (now out) ⌝ }
     requires { ⌜ Shaped s ⌝ }
     requires { ⌜ offset + (exif + (gain .sample + gain .xmp)) < 4294967296 ⌝ }
     requires { ⌜ s .exif ≡ true ⌝ }
-    ensures { λ r. ⌜ Wrote (now (out .entry)) at (16 + (cond (s .gain) 32 0 + cond (s .tone) 16 0)) (flatMap (entry ordinary) (located (exif-id s) 0 (spans offset (other-sizes s exif gain)))) (now (out .exit)) r ⌝ }
+    ensures { λ r. ⌜ Wrote (now (out .entry)) at ((14 + form-of form .id) + (cond (s .gain) (28 + 2 * form-of form .id) 0 + cond (s .tone) (14 + form-of form .id) 0)) (flatMap (entry (form-of form)) (located (exif-id s) 0 (spans offset (other-sizes s exif gain)))) (now (out .exit)) r ⌝ }
 {
     let id = exif_id(s);
-    let a = write_location(out, at, id, 0, offset, exif);
-    gain_map::location::write_iloc(out, a, s, offset + exif, gain)
+    let a = write_location(out, at, form, id, 0, offset, exif);
+    gain_map::location::write_iloc(out, a, form, s, offset + exif, gain)
 }
 
 // The entries of what lies behind the alpha samples.
 fn write_other_locations(
     out: &mut [u8],
     at: usize,
+    form: FileForm,
     s: Shape,
     offset: u32,
     exif: u32,
     gain: PayloadLengths,
 ) -> usize
-    requires { ⌜ at + (cond (s .exif) 16 0 + (cond (s .gain) 32 0 + cond (s .tone) 16 0)) ≤ length (now out) ⌝ }
+    requires { ⌜ at + (cond (s .exif) (14 + form-of form .id) 0 + (cond (s .gain) (28 + 2 * form-of form .id) 0 + cond (s .tone) (14 + form-of form .id) 0)) ≤ length (now out) ⌝ }
     requires { ⌜ Shaped s ⌝ }
     requires { ⌜ offset + (exif + (gain .sample + gain .xmp)) < 4294967296 ⌝ }
-    ensures { λ r. ⌜ Wrote (now (out .entry)) at (cond (s .exif) 16 0 + (cond (s .gain) 32 0 + cond (s .tone) 16 0)) (flatMap (entry ordinary) (located (exif-id s) 0 (spans offset (other-sizes s exif gain)))) (now (out .exit)) r ⌝ }
+    ensures { λ r. ⌜ Wrote (now (out .entry)) at (cond (s .exif) (14 + form-of form .id) 0 + (cond (s .gain) (28 + 2 * form-of form .id) 0 + cond (s .tone) (14 + form-of form .id) 0)) (flatMap (entry (form-of form)) (located (exif-id s) 0 (spans offset (other-sizes s exif gain)))) (now (out .exit)) r ⌝ }
 {
     if s.exif {
-        return write_exif_locations(out, at, s, offset, exif, gain);
+        return write_exif_locations(out, at, form, s, offset, exif, gain);
     }
-    gain_map::location::write_iloc(out, at, s, offset, gain)
+    gain_map::location::write_iloc(out, at, form, s, offset, gain)
 }
 
 // Where the runs of payloads begin: the colour samples, the alpha samples, and what lies behind them.
@@ -116,20 +122,21 @@ pub struct Offsets {
 }
 
 // The head of iloc: its sizes byte, and the count of entries.
-fn write_iloc_head(out: &mut [u8], at: usize, size: u32, s: Shape) -> usize
-    requires { ⌜ at + 16 ≤ length (now out) ⌝ }
+fn write_iloc_head(out: &mut [u8], at: usize, form: FileForm, size: u32, s: Shape) -> usize
+    requires { ⌜ at + (14 + form-of form .count) ≤ length (now out) ⌝ }
     requires { ⌜ Shaped s ⌝ }
-    ensures { λ r. ⌜ Wrote (now (out .entry)) at 16 (be 4 size ‖ text "iloc" ‖ be 1 1 ‖ be 3 0 ‖ be 2 17408 ‖ be 2 (last-id s)) (now (out .exit)) r ⌝ }
+    ensures { λ r. ⌜ Wrote (now (out .entry)) at (14 + form-of form .count) (be 4 size ‖ text "iloc" ‖ be 1 (1 + form-of form .step) ‖ be 3 0 ‖ be 2 17408 ‖ be (form-of form .count) (last-id s)) (now (out .exit)) r ⌝ }
 {
-    let a = write_fullbox(out, at, size, b"iloc", 1, 0);
+    let a = write_item_box(out, at, form, size, b"iloc", 1, 0);
     let b = w16(out, a, 0x4400);
-    write_count(out, b, last_id(s))
+    write_count(out, b, form, last_id(s))
 }
 
 // iloc.
 pub fn write_iloc(
     out: &mut [u8],
     at: usize,
+    form: FileForm,
     size: u32,
     s: Shape,
     descriptor: u32,
@@ -139,18 +146,18 @@ pub fn write_iloc(
     color_lengths: &[u32],
     alpha_lengths: &[u32],
 ) -> usize
-    requires { ⌜ at + (8 + iloc-size ordinary s) ≤ length (now out) ⌝ }
+    requires { ⌜ at + (8 + iloc-size (form-of form) s) ≤ length (now out) ⌝ }
     requires { ⌜ Shaped s ⌝ }
-    requires { ⌜ size ≡ 8 + iloc-size ordinary s ⌝ }
+    requires { ⌜ size ≡ 8 + iloc-size (form-of form) s ⌝ }
     requires { ⌜ length (now «color_lengths») ≡ s .tiles ⌝ }
     requires { ⌜ length (now «alpha_lengths») ≡ s .tiles ⌝ }
     requires { ⌜ offsets .color + total (now «color_lengths») < 4294967296 ⌝ }
     requires { ⌜ offsets .alpha + total (now «alpha_lengths») < 4294967296 ⌝ }
     requires { ⌜ offsets .other + (exif + (gain .sample + gain .xmp)) < 4294967296 ⌝ }
-    ensures { λ r. ⌜ Boxed (now (out .entry)) at (8 + iloc-size ordinary s) (iloc ordinary (placed s descriptor (offsets .color) (offsets .alpha) (offsets .other) (now («color_lengths» .entry)) (now («alpha_lengths» .entry)) (other-sizes s exif gain)) ∷ []) (now (out .exit)) r ⌝ }
+    ensures { λ r. ⌜ Boxed (now (out .entry)) at (8 + iloc-size (form-of form) s) (iloc (form-of form) (placed s descriptor (offsets .color) (offsets .alpha) (offsets .other) (now («color_lengths» .entry)) (now («alpha_lengths» .entry)) (other-sizes s exif gain)) ∷ []) (now (out .exit)) r ⌝ }
 {
-    let a = write_iloc_head(out, at, size, s);
-    let b = write_color_locations(out, a, s, offsets.color, color_lengths, descriptor);
-    let c = write_alpha_locations(out, b, s, offsets.alpha, alpha_lengths, descriptor);
-    write_other_locations(out, c, s, offsets.other, exif, gain)
+    let a = write_iloc_head(out, at, form, size, s);
+    let b = write_color_locations(out, a, form, s, offsets.color, color_lengths, descriptor);
+    let c = write_alpha_locations(out, b, form, s, offsets.alpha, alpha_lengths, descriptor);
+    write_other_locations(out, c, form, s, offsets.other, exif, gain)
 }

@@ -6,6 +6,7 @@ ghost use lib.ListN.{length};
 ghost use Rattle.octets.specs.Numbers.{_‖_, total};
 ghost use Rattle.octets.specs.Boxes.{full, boxes};
 ghost use Rattle.octets.specs.Stores.{Boxed};
+ghost use Rattle.panel.specs.Forms.{form-of};
 ghost use Rattle.panel.specs.Of.{panel-of};
 ghost use Rattle.panel.specs.File.{idat};
 ghost use Rattle.length.specs.Properties.{pictures};
@@ -29,6 +30,7 @@ use items::write_iref;
 use octets::write_box;
 use octets::write_fullbox;
 use offsets::Layout;
+use panel::FileForm;
 use panel::GridDims;
 use panel::Panel;
 use panel::Shape;
@@ -51,20 +53,21 @@ pub fn write_idat(out: &mut [u8], at: usize, size: u32, d: GridDims) -> usize
 pub fn write_item_boxes(
     out: &mut [u8],
     at: usize,
+    form: FileForm,
     y: Layout,
     exif: u32,
     gain: PayloadLengths,
     color_lengths: &[u32],
     alpha_lengths: &[u32],
 ) -> usize
-    requires { ⌜ at + item-boxes-size (y .shape) ≤ length (now out) ⌝ }
-    requires { ⌜ Item-sizes y ⌝ }
+    requires { ⌜ at + item-boxes-size (form-of form) (y .shape) ≤ length (now out) ⌝ }
+    requires { ⌜ Item-sizes (form-of form) y ⌝ }
     requires { ⌜ length (now «color_lengths») ≡ y .shape .tiles ⌝ }
     requires { ⌜ length (now «alpha_lengths») ≡ y .shape .tiles ⌝ }
     requires { ⌜ y .«color_data» + total (now «color_lengths») < 4294967296 ⌝ }
     requires { ⌜ y .«alpha_data» + total (now «alpha_lengths») < 4294967296 ⌝ }
     requires { ⌜ y .«other_data» + (exif + (gain .sample + gain .xmp)) < 4294967296 ⌝ }
-    ensures { λ r. ⌜ Boxed (now (out .entry)) at (item-boxes-size (y .shape)) (item-boxes (y .shape) (placed (y .shape) (y .descriptor) (y .«color_data») (y .«alpha_data») (y .«other_data») (now («color_lengths» .entry)) (now («alpha_lengths» .entry)) (other-sizes (y .shape) exif gain))) (now (out .exit)) r ⌝ }
+    ensures { λ r. ⌜ Boxed (now (out .entry)) at (item-boxes-size (form-of form) (y .shape)) (item-boxes (form-of form) (y .shape) (placed (y .shape) (y .descriptor) (y .«color_data») (y .«alpha_data») (y .«other_data») (now («color_lengths» .entry)) (now («alpha_lengths» .entry)) (other-sizes (y .shape) exif gain))) (now (out .exit)) r ⌝ }
 {
     let s = y.shape;
     let offsets = Offsets {
@@ -74,10 +77,11 @@ pub fn write_item_boxes(
     };
     let grid = color_grid_id(s);
     let a = write_hdlr(out, at);
-    let b = write_pitm(out, a, grid);
+    let b = write_pitm(out, a, form, grid);
     let c = write_iloc(
         out,
         b,
+        form,
         y.iloc,
         s,
         y.descriptor,
@@ -87,14 +91,15 @@ pub fn write_item_boxes(
         color_lengths,
         alpha_lengths,
     );
-    let d = write_iinf(out, c, y.iinf, s);
-    write_iref(out, d, y.iref, s)
+    let d = write_iinf(out, c, form, y.iinf, s);
+    write_iref(out, d, form, y.iref, s)
 }
 
 // iprp: ipco and ipma, which has so many entries.
 pub fn write_iprp(
     out: &mut [u8],
     at: usize,
+    form: FileForm,
     y: Layout,
     count: u32,
     z: Places,
@@ -105,12 +110,12 @@ pub fn write_iprp(
     gain_hvcc: &[u8],
     alternate_icc: &[u8],
 ) -> usize
-    requires { ⌜ at + iprp-bytes (panel-of panel (lent-props (now «color_hvcc») (now «alpha_hvcc») (now icc) (now «gain_hvcc») (now «alternate_icc»))) (y .shape) z ≤ length (now out) ⌝ }
-    requires { ⌜ Item-sizes y ⌝ }
-    requires { ⌜ Property-sizes (panel-of panel (lent-props (now «color_hvcc») (now «alpha_hvcc») (now icc) (now «gain_hvcc») (now «alternate_icc»))) y z (panel .dims) ⌝ }
+    requires { ⌜ at + iprp-bytes (form-of form) (panel-of panel (lent-props (now «color_hvcc») (now «alpha_hvcc») (now icc) (now «gain_hvcc») (now «alternate_icc»))) (y .shape) z ≤ length (now out) ⌝ }
+    requires { ⌜ Item-sizes (form-of form) y ⌝ }
+    requires { ⌜ Property-sizes (form-of form) (panel-of panel (lent-props (now «color_hvcc») (now «alpha_hvcc») (now icc) (now «gain_hvcc») (now «alternate_icc»))) y z (panel .dims) ⌝ }
     requires { ⌜ Fit z ⌝ }
     requires { ⌜ count ≡ pictures (y .shape) ⌝ }
-    ensures { λ r. ⌜ Boxed (now (out .entry)) at (iprp-bytes (panel-of panel (lent-props (now («color_hvcc» .entry)) (now («alpha_hvcc» .entry)) (now (icc .entry)) (now («gain_hvcc» .entry)) (now («alternate_icc» .entry)))) (y .shape) z) (iprp-of (panel-of panel (lent-props (now («color_hvcc» .entry)) (now («alpha_hvcc» .entry)) (now (icc .entry)) (now («gain_hvcc» .entry)) (now («alternate_icc» .entry)))) (y .shape) z ∷ []) (now (out .exit)) r ⌝ }
+    ensures { λ r. ⌜ Boxed (now (out .entry)) at (iprp-bytes (form-of form) (panel-of panel (lent-props (now («color_hvcc» .entry)) (now («alpha_hvcc» .entry)) (now (icc .entry)) (now («gain_hvcc» .entry)) (now («alternate_icc» .entry)))) (y .shape) z) (iprp-of (form-of form) (panel-of panel (lent-props (now («color_hvcc» .entry)) (now («alpha_hvcc» .entry)) (now (icc .entry)) (now («gain_hvcc» .entry)) (now («alternate_icc» .entry)))) (y .shape) z ∷ []) (now (out .exit)) r ⌝ }
 {
     let s = y.shape;
     let a = write_box(out, at, y.iprp, b"iprp");
@@ -125,13 +130,14 @@ pub fn write_iprp(
         gain_hvcc,
         alternate_icc,
     );
-    write_ipma(out, b, y.ipma, count, s, z)
+    write_ipma(out, b, form, y.ipma, count, s, z)
 }
 
 // iprp, grpl where there is a tone map, and idat.
 pub fn write_property_boxes(
     out: &mut [u8],
     at: usize,
+    form: FileForm,
     y: Layout,
     count: u32,
     z: Places,
@@ -142,19 +148,20 @@ pub fn write_property_boxes(
     gain_hvcc: &[u8],
     alternate_icc: &[u8],
 ) -> usize
-    requires { ⌜ at + property-boxes-size (panel-of panel (lent-props (now «color_hvcc») (now «alpha_hvcc») (now icc) (now «gain_hvcc») (now «alternate_icc»))) (y .shape) z (panel .dims) ≤ length (now out) ⌝ }
-    requires { ⌜ Item-sizes y ⌝ }
-    requires { ⌜ Property-sizes (panel-of panel (lent-props (now «color_hvcc») (now «alpha_hvcc») (now icc) (now «gain_hvcc») (now «alternate_icc»))) y z (panel .dims) ⌝ }
+    requires { ⌜ at + property-boxes-size (form-of form) (panel-of panel (lent-props (now «color_hvcc») (now «alpha_hvcc») (now icc) (now «gain_hvcc») (now «alternate_icc»))) (y .shape) z (panel .dims) ≤ length (now out) ⌝ }
+    requires { ⌜ Item-sizes (form-of form) y ⌝ }
+    requires { ⌜ Property-sizes (form-of form) (panel-of panel (lent-props (now «color_hvcc») (now «alpha_hvcc») (now icc) (now «gain_hvcc») (now «alternate_icc»))) y z (panel .dims) ⌝ }
     requires { ⌜ Fit z ⌝ }
     requires { ⌜ count ≡ pictures (y .shape) ⌝ }
     requires { ⌜ Sided (panel .dims) ⌝ }
-    ensures { λ r. ⌜ Boxed (now (out .entry)) at (property-boxes-size (panel-of panel (lent-props (now («color_hvcc» .entry)) (now («alpha_hvcc» .entry)) (now (icc .entry)) (now («gain_hvcc» .entry)) (now («alternate_icc» .entry)))) (y .shape) z (panel .dims)) (property-boxes (panel-of panel (lent-props (now («color_hvcc» .entry)) (now («alpha_hvcc» .entry)) (now (icc .entry)) (now («gain_hvcc» .entry)) (now («alternate_icc» .entry)))) (y .shape) z (panel .dims)) (now (out .exit)) r ⌝ }
+    ensures { λ r. ⌜ Boxed (now (out .entry)) at (property-boxes-size (form-of form) (panel-of panel (lent-props (now («color_hvcc» .entry)) (now («alpha_hvcc» .entry)) (now (icc .entry)) (now («gain_hvcc» .entry)) (now («alternate_icc» .entry)))) (y .shape) z (panel .dims)) (property-boxes (form-of form) (panel-of panel (lent-props (now («color_hvcc» .entry)) (now («alpha_hvcc» .entry)) (now (icc .entry)) (now («gain_hvcc» .entry)) (now («alternate_icc» .entry)))) (y .shape) z (panel .dims)) (now (out .exit)) r ⌝ }
 {
     let s = y.shape;
     let dims = panel.dims;
     let a = write_iprp(
         out,
         at,
+        form,
         y,
         count,
         z,
@@ -174,6 +181,7 @@ pub fn write_property_boxes(
 pub fn write_meta(
     out: &mut [u8],
     at: usize,
+    form: FileForm,
     y: Layout,
     count: u32,
     z: Places,
@@ -188,25 +196,26 @@ pub fn write_meta(
     gain_hvcc: &[u8],
     alternate_icc: &[u8],
 ) -> usize
-    requires { ⌜ at + (12 + (item-boxes-size (y .shape) + property-boxes-size (panel-of panel (lent-props (now «color_hvcc») (now «alpha_hvcc») (now icc) (now «gain_hvcc») (now «alternate_icc»))) (y .shape) z (panel .dims))) ≤ length (now out) ⌝ }
-    requires { ⌜ Item-sizes y ⌝ }
-    requires { ⌜ Property-sizes (panel-of panel (lent-props (now «color_hvcc») (now «alpha_hvcc») (now icc) (now «gain_hvcc») (now «alternate_icc»))) y z (panel .dims) ⌝ }
+    requires { ⌜ at + (12 + (item-boxes-size (form-of form) (y .shape) + property-boxes-size (form-of form) (panel-of panel (lent-props (now «color_hvcc») (now «alpha_hvcc») (now icc) (now «gain_hvcc») (now «alternate_icc»))) (y .shape) z (panel .dims))) ≤ length (now out) ⌝ }
+    requires { ⌜ Item-sizes (form-of form) y ⌝ }
+    requires { ⌜ Property-sizes (form-of form) (panel-of panel (lent-props (now «color_hvcc») (now «alpha_hvcc») (now icc) (now «gain_hvcc») (now «alternate_icc»))) y z (panel .dims) ⌝ }
     requires { ⌜ Fit z ⌝ }
     requires { ⌜ count ≡ pictures (y .shape) ⌝ }
     requires { ⌜ Sided (panel .dims) ⌝ }
-    requires { ⌜ y .meta ≡ 12 + (item-boxes-size (y .shape) + property-boxes-size (panel-of panel (lent-props (now «color_hvcc») (now «alpha_hvcc») (now icc) (now «gain_hvcc») (now «alternate_icc»))) (y .shape) z (panel .dims)) ⌝ }
+    requires { ⌜ y .meta ≡ 12 + (item-boxes-size (form-of form) (y .shape) + property-boxes-size (form-of form) (panel-of panel (lent-props (now «color_hvcc») (now «alpha_hvcc») (now icc) (now «gain_hvcc») (now «alternate_icc»))) (y .shape) z (panel .dims)) ⌝ }
     requires { ⌜ length (now «color_lengths») ≡ y .shape .tiles ⌝ }
     requires { ⌜ length (now «alpha_lengths») ≡ y .shape .tiles ⌝ }
     requires { ⌜ y .«color_data» + total (now «color_lengths») < 4294967296 ⌝ }
     requires { ⌜ y .«alpha_data» + total (now «alpha_lengths») < 4294967296 ⌝ }
     requires { ⌜ y .«other_data» + (exif + (gain .sample + gain .xmp)) < 4294967296 ⌝ }
-    ensures { λ r. ⌜ Boxed (now (out .entry)) at (12 + (item-boxes-size (y .shape) + property-boxes-size (panel-of panel (lent-props (now («color_hvcc» .entry)) (now («alpha_hvcc» .entry)) (now (icc .entry)) (now («gain_hvcc» .entry)) (now («alternate_icc» .entry)))) (y .shape) z (panel .dims))) (full "meta" 0 0 (boxes (item-boxes (y .shape) (placed (y .shape) (y .descriptor) (y .«color_data») (y .«alpha_data») (y .«other_data») (now («color_lengths» .entry)) (now («alpha_lengths» .entry)) (other-sizes (y .shape) exif gain)) ‖ property-boxes (panel-of panel (lent-props (now («color_hvcc» .entry)) (now («alpha_hvcc» .entry)) (now (icc .entry)) (now («gain_hvcc» .entry)) (now («alternate_icc» .entry)))) (y .shape) z (panel .dims))) ∷ []) (now (out .exit)) r ⌝ }
+    ensures { λ r. ⌜ Boxed (now (out .entry)) at (12 + (item-boxes-size (form-of form) (y .shape) + property-boxes-size (form-of form) (panel-of panel (lent-props (now («color_hvcc» .entry)) (now («alpha_hvcc» .entry)) (now (icc .entry)) (now («gain_hvcc» .entry)) (now («alternate_icc» .entry)))) (y .shape) z (panel .dims))) (full "meta" 0 0 (boxes (item-boxes (form-of form) (y .shape) (placed (y .shape) (y .descriptor) (y .«color_data») (y .«alpha_data») (y .«other_data») (now («color_lengths» .entry)) (now («alpha_lengths» .entry)) (other-sizes (y .shape) exif gain)) ‖ property-boxes (form-of form) (panel-of panel (lent-props (now («color_hvcc» .entry)) (now («alpha_hvcc» .entry)) (now (icc .entry)) (now («gain_hvcc» .entry)) (now («alternate_icc» .entry)))) (y .shape) z (panel .dims))) ∷ []) (now (out .exit)) r ⌝ }
 {
     let a = write_fullbox(out, at, y.meta, b"meta", 0, 0);
-    let b = write_item_boxes(out, a, y, exif, gain, color_lengths, alpha_lengths);
+    let b = write_item_boxes(out, a, form, y, exif, gain, color_lengths, alpha_lengths);
     write_property_boxes(
         out,
         b,
+        form,
         y,
         count,
         z,

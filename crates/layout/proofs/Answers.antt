@@ -10,9 +10,9 @@ use lib.ListN.{length}
 use borrow.Author.Tests.{lt-ltb, le-ltb, le-leb, lt-leb, ltb-false, eqb-true, not-false}
 use Rattle.panel.specs.Panel.{Panel}
 use Rattle.panel.specs.Of.{Lent, gain-of, panel-of}
-use Rattle.panel.specs.Items.{ordinary, shape}
+use Rattle.panel.specs.Items.{Form, shape}
 use Rattle.panel.specs.File.{rext, gain-rext, file}
-use Rattle.panel.specs.Refusal.{bad-side, bad-grid, differ, bad-counts, bad-sum, last-id, checks, refusal}
+use Rattle.panel.specs.Refusal.{bad-side, bad-grid, differ, bad-counts, bad-sum, bad-items, checks, refusal}
 use Rattle.panel.specs.Answer.{made, refused, outcome, length-answer}
 use Rattle.panel.specs.declared.Panel.{Panel as Numbers}
 use Rattle.panel.specs.declared.Shape.{Shape}
@@ -32,14 +32,14 @@ use Rattle.layout.specs.declared.FilePlan.{FilePlan}
 
 -- ---- the checks decide
 
-all : (p : Panel) → Decides (refusal ordinary p) (checks ordinary (length (file ordinary p)) p)
+all : (f : Form) (p : Panel) → Decides (refusal f p) (checks f (length (file f p)) p)
 unfolding refusal
-all p = record { by = refl }
+all f p = record { by = refl }
 
 -- the answer by the number of the refusal
-answered : (p : Panel) {k : ℕ} → refusal ordinary p ≡ k → outcome k (length (file ordinary p)) ≡ length-answer ordinary p
+answered : (f : Form) (p : Panel) {k : ℕ} → refusal f p ≡ k → outcome k (length (file f p)) ≡ length-answer f p
 unfolding length-answer
-answered p e = sym (ap (λ (k : ℕ). outcome k (length (file ordinary p))) e)
+answered f p e = sym (ap (λ (k : ℕ). outcome k (length (file f p))) e)
 
 -- ---- what a test that did not hold says
 
@@ -55,7 +55,7 @@ few rows cols t a e f =
 
 -- ---- the checks of a panel that is lent, by what the code tests
 
-module _ (n : Numbers) (l : Lent) where
+module _ (f : Form) (n : Numbers) (l : Lent) where
   abbrev pub Sides : Bool → Type 0
   Sides b = bad-grid (n .dims .rows) (n .dims .cols) ≡ b
 
@@ -65,29 +65,29 @@ module _ (n : Numbers) (l : Lent) where
   abbrev pub Sums : Bool → Type 0
   Sums b = (bad-sum (l .tiles) || bad-sum (l .alpha)) ≡ b
 
-  pub stop-1 : Sides true → refused 1 ≡ length-answer ordinary (panel-of n l)
+  pub stop-1 : Sides true → refused 1 ≡ length-answer f (panel-of n l)
   unfolding panel-of
-  stop-1 a = answered _ (stop (all (panel-of n l)) a)
+  stop-1 a = answered f _ (stop (all f (panel-of n l)) a)
 
-  pub stop-2 : Sides false → Counts true → refused 2 ≡ length-answer ordinary (panel-of n l)
+  pub stop-2 : Sides false → Counts true → refused 2 ≡ length-answer f (panel-of n l)
   unfolding panel-of
-  stop-2 a b = answered _ (stop (pass (all (panel-of n l)) a) b)
+  stop-2 a b = answered f _ (stop (pass (all f (panel-of n l)) a) b)
 
-  pub stop-3 : Sides false → Counts false → Sums true → refused 3 ≡ length-answer ordinary (panel-of n l)
+  pub stop-3 : Sides false → Counts false → Sums true → refused 3 ≡ length-answer f (panel-of n l)
   unfolding panel-of
-  stop-3 a b c = answered _ (stop (pass (pass (all (panel-of n l)) a) b) c)
+  stop-3 a b c = answered f _ (stop (pass (pass (all f (panel-of n l)) a) b) c)
 
   -- the sizes of an accepted panel's boxes make a file
-  pub room : (z : Sizes) → refusal ordinary (panel-of n l) ≡ 0 → Sized (panel-of n l) z → Within z (length (l .tiles .bytes)) (length (l .alpha .bytes))
+  pub room : (z : Sizes) → refusal f (panel-of n l) ≡ 0 → Sized f (panel-of n l) z → Within z (length (l .tiles .bytes)) (length (l .alpha .bytes))
   unfolding panel-of
-  room z e y = within _ z (is-accepted ordinary _ e) y
+  room z e y = within f _ z (is-accepted f _ e) y
 
   -- and with them all that its layout is made from
-  pub given : {z : Sizes} {s : Shape} {k : ℕ} {color gain : Bool} → refusal ordinary (panel-of n l) ≡ 0 → Sized (panel-of n l) z → s ≡ shape (panel-of n l) → k ≡ descriptor-size (n .dims)
-      → color ≡ rext (l .tiles .config) → gain ≡ gain-rext (gain-of (n .«gain_map») l) → Given (panel-of n l) z s k (length (l .tiles .bytes)) (length (l .alpha .bytes)) color gain
+  pub given : {z : Sizes} {s : Shape} {k : ℕ} {color gain : Bool} → refusal f (panel-of n l) ≡ 0 → Sized f (panel-of n l) z → s ≡ shape (panel-of n l) → k ≡ descriptor-size (n .dims)
+      → color ≡ rext (l .tiles .config) → gain ≡ gain-rext (gain-of (n .«gain_map») l) → Given f (panel-of n l) z s k (length (l .tiles .bytes)) (length (l .alpha .bytes)) color gain
   unfolding panel-of
   given e y i k c g =
-      record { even = even-accepted ordinary _ (is-accepted ordinary _ e); sized = y; items = i; grid = k ∙ sym (length-descriptor (n .dims)); colors = refl; alphas = refl; color-rext = c; gain-rext = g }
+      record { even = even-accepted f _ (is-accepted f _ e); sized = y; items = i; grid = k ∙ sym (length-descriptor (n .dims)); colors = refl; alphas = refl; color-rext = c; gain-rext = g }
 
   module _ (h : Sides false) (i : Counts false) (j : Sums false) where
     -- both pictures have as many tiles, whose lengths sum to what is lent
@@ -101,37 +101,33 @@ module _ (n : Numbers) (l : Lent) where
 
     -- s is the shape of the panel
     module _ {s : Shape} (e : s ≡ shape (panel-of n l)) where
-      pub stop-4 : 65535 < last-id s → refused 4 ≡ length-answer ordinary (panel-of n l)
+      pub stop-4 : bad-items f s ≡ true → refused 4 ≡ length-answer f (panel-of n l)
       unfolding panel-of
-      stop-4 d =
-          let id = last-id (shape (panel-of n l)) in
-          answered _ (stop (pass (pass (pass (all (panel-of n l)) h) i) j) (le-leb 65536 id (omega (arith, ap last-id e))))
+      stop-4 d = answered f _ (stop (pass (pass (pass (all f (panel-of n l)) h) i) j) (ap (bad-items f) (sym e) ∙ d))
 
-      behind-4 : last-id s ≤ 65535 → Decides (refusal ordinary (panel-of n l)) (record { number = 5; holds = λ _. ltb 4294967295 (length (file ordinary (panel-of n l))) } ∷ [])
+      behind-4 : bad-items f s ≡ false → Decides (refusal f (panel-of n l)) (record { number = 5; holds = λ _. ltb 4294967295 (length (file f (panel-of n l))) } ∷ [])
       unfolding panel-of
-      behind-4 d =
-          let id = last-id (shape (panel-of n l)) in
-          pass (pass (pass (pass (all (panel-of n l)) h) i) j) (lt-leb 65536 id (omega (arith, ap last-id e)))
+      behind-4 d = pass (pass (pass (pass (all f (panel-of n l)) h) i) j) (ap (bad-items f) (sym e) ∙ d)
 
 -- none of the first four checks holds, and r stands for the file's length
-module _ (n : Numbers) (l : Lent) {s : Shape} (h : Passes n l s) {r : ℕ} (c : Capped 4294967296 r (size ordinary (panel-of n l))) where
+module _ (f : Form) (n : Numbers) (l : Lent) {s : Shape} (h : Passes f n l s) {r : ℕ} (c : Capped 4294967296 r (size f (panel-of n l))) where
   abbrev evenly : Even (panel-of n l)
-  evenly = even n l (h .sides) (h .counts) (h .sums)
+  evenly = even f n l (h .sides) (h .counts) (h .sums)
 
-  abbrev decides : Decides (refusal ordinary (panel-of n l)) (record { number = 5; holds = λ _. ltb 4294967295 (length (file ordinary (panel-of n l))) } ∷ [])
-  decides = behind-4 n l (h .sides) (h .counts) (h .sums) (h .items) (h .last)
+  abbrev decides : Decides (refusal f (panel-of n l)) (record { number = 5; holds = λ _. ltb 4294967295 (length (file f (panel-of n l))) } ∷ [])
+  decides = behind-4 f n l (h .sides) (h .counts) (h .sums) (h .items) (h .last)
 
-  pub stop-5 : 4294967295 < r → refused 5 ≡ length-answer ordinary (panel-of n l)
-  stop-5 f =
+  pub stop-5 : 4294967295 < r → refused 5 ≡ length-answer f (panel-of n l)
+  stop-5 d =
       let p = panel-of n l in
-      answered _ (stop decides (lt-ltb 4294967295 (length (file ordinary p)) (omega (arith, length-file ordinary p evenly, c .below))))
+      answered f _ (stop decides (lt-ltb 4294967295 (length (file f p)) (omega (arith, length-file f p evenly, c .below))))
 
-  pub accepted : r ≤ 4294967295 → (refusal ordinary (panel-of n l) ≡ 0) × (r ≡ length (file ordinary (panel-of n l)))
-  accepted f =
+  pub accepted : r ≤ 4294967295 → (refusal f (panel-of n l) ≡ 0) × (r ≡ length (file f (panel-of n l)))
+  accepted d =
       let p = panel-of n l in
-      let k : r ≡ length (file ordinary p) = c .whole (omega arith) ∙ sym (length-file ordinary p evenly) in
-      (pass decides (le-ltb 4294967295 (length (file ordinary p)) (omega arith)) .by, k)
+      let k : r ≡ length (file f p) = c .whole (omega arith) ∙ sym (length-file f p evenly) in
+      (pass decides (le-ltb 4294967295 (length (file f p)) (omega arith)) .by, k)
 
 -- what the length call answers where the plan is made
-pub made-length : (p : Panel) (f : FilePlan) → Made-from p f → made (f .length) ≡ length-answer ordinary p
-made-length p f m = ap made (m .long) ∙ answered p (m .accepted)
+pub made-length : (f : Form) (p : Panel) (g : FilePlan) → Made-from f p g → made (g .length) ≡ length-answer f p
+made-length f p g m = ap made (m .long) ∙ answered f p (m .accepted)

@@ -5,9 +5,9 @@ use Prim.Native.Nat.{_*_, _≤_}
 use lib.ListN.{length}
 use Rattle.panel.specs.Panel.{Panel}
 use Rattle.panel.specs.Of.{Lent, panel-of}
-use Rattle.panel.specs.Items.{ordinary, shape}
+use Rattle.panel.specs.Items.{Form, shape}
 use Rattle.panel.specs.File.{file}
-use Rattle.panel.specs.Refusal.{bad-grid, bad-counts, bad-sum, last-id, refusal}
+use Rattle.panel.specs.Refusal.{bad-grid, bad-counts, bad-sum, bad-items, refusal}
 use Rattle.panel.specs.Answer.{refused, number, length-answer}
 use Rattle.places.specs.Roles.{Placed, Fit}
 use Rattle.offsets.specs.Laid.{Laid}
@@ -20,25 +20,25 @@ use Rattle.layout.specs.declared.Plan.{Plan}
 use Rattle.layout.specs.declared.Plan.the-variants.{Refused, Made}
 
 -- none of the first four checks holds, and s is the shape
-pub record Passes (n : Numbers) (l : Lent) (s : Shape) : Type 0 where
+pub record Passes (f : Form) (n : Numbers) (l : Lent) (s : Shape) : Type 0 where
   pub sides : bad-grid (n .dims .rows) (n .dims .cols) ≡ false
   pub counts : bad-counts (n .dims .rows * n .dims .cols) (length (l .tiles .lengths)) (length (l .alpha .lengths)) ≡ false
   pub sums : (bad-sum (l .tiles) || bad-sum (l .alpha)) ≡ false
   pub items : s ≡ shape (panel-of n l)
-  pub last : last-id s ≤ 65535
+  pub last : bad-items f s ≡ false
   pub few : s .tiles ≤ 65536
 
-abbrev pub First : Numbers → Lent → Checked → Type 0
-First n l (C.Refused r) = refused (number r) ≡ length-answer ordinary (panel-of n l)
-First n l (C.Passed s) = Passes n l s
+abbrev pub First : Form → Numbers → Lent → Checked → Type 0
+First f n l (C.Refused r) = refused (number r) ≡ length-answer f (panel-of n l)
+First f n l (C.Passed s) = Passes f n l s
 
-pub record Made-from (p : Panel) (f : FilePlan) : Type 0 where
-  pub accepted : refusal ordinary p ≡ 0
-  pub long : f .length ≡ length (file ordinary p)
-  pub laid : Laid p (f .layout)
-  pub placed : Placed p (f .places)
-  pub fit : Fit (f .places)
+pub record Made-from (f : Form) (p : Panel) (m : FilePlan) : Type 0 where
+  pub accepted : refusal f p ≡ 0
+  pub long : m .length ≡ length (file f p)
+  pub laid : Laid f p (m .layout)
+  pub placed : Placed p (m .places)
+  pub fit : Fit (m .places)
 
-abbrev pub Planned : Panel → Plan → Type 0
-Planned p (Refused r) = refused (number r) ≡ length-answer ordinary p
-Planned p (Made f) = Made-from p f
+abbrev pub Planned : Form → Panel → Plan → Type 0
+Planned f p (Refused r) = refused (number r) ≡ length-answer f p
+Planned f p (Made m) = Made-from f p m

@@ -2,6 +2,7 @@
 ghost use mathlib.Core.Path.{_≡_};
 ghost use Rattle.panel.specs.Of.{Lent, panel-of};
 ghost use Rattle.panel.specs.Items.{ordinary};
+ghost use Rattle.panel.specs.Forms.{form-of};
 ghost use Rattle.panel.specs.Widths.{Fits};
 ghost use Rattle.panel.specs.Answer.{says, length-answer};
 ghost use Rattle.layout.specs.Lent.{lent};
@@ -9,15 +10,16 @@ ghost use Rattle.layout.specs.Plan.{First, Planned};
 use boxes::ftyp::hvcc_uses_rext;
 use checks::bad_counts;
 use checks::bad_grid;
+use checks::bad_items;
 use checks::bad_sums;
 use checks::fits::numbers_fit;
-use checks::shape::last_id;
 use checks::shape::shape_of;
 use grids::descriptor_length;
 use offsets::Layout;
 use offsets::file_size;
 use offsets::placed;
 use panel::Answer;
+use panel::FileForm;
 use panel::Panel;
 use panel::Refusal;
 use panel::Shape;
@@ -49,13 +51,14 @@ pub enum Checked {
 
 // The checks 1 to 4 in their order, each with its own answer.
 fn first_checks(
+    form: FileForm,
     panel: Panel,
     color_lengths: &[u32],
     alpha_lengths: &[u32],
     color_samples: &[u8],
     alpha_samples: &[u8],
 ) -> Checked
-    ensures { λ r. ⌜ ((l : Lent) → l .tiles .lengths ≡ now («color_lengths» .entry) → l .alpha .lengths ≡ now («alpha_lengths» .entry) → l .tiles .bytes ≡ now («color_samples» .entry) → l .alpha .bytes ≡ now («alpha_samples» .entry) → First panel l r) ⌝ }
+    ensures { λ r. ⌜ ((l : Lent) → l .tiles .lengths ≡ now («color_lengths» .entry) → l .alpha .lengths ≡ now («alpha_lengths» .entry) → l .tiles .bytes ≡ now («color_samples» .entry) → l .alpha .bytes ≡ now («alpha_samples» .entry) → First (form-of form) panel l r) ⌝ }
 {
     let dims = panel.dims;
     if bad_grid(dims.rows, dims.cols) {
@@ -73,7 +76,7 @@ fn first_checks(
         return Checked::Refused(Refusal::SampleLengths);
     }
     let shape = shape_of(panel, color_lengths.len() as u32);
-    if 65535 < last_id(shape) {
+    if bad_items(form, shape) {
         return Checked::Refused(Refusal::ItemIds);
     }
     Checked::Passed(shape)
@@ -82,6 +85,7 @@ fn first_checks(
 // The plan of a panel's file: the checks 1 to 5 in their order, and all numbers of the file.
 // Above 40 lines and 8 calls by its parameters and numbers, one to a line: each byte part is a slice of its own.
 pub fn plan_of(
+    form: FileForm,
     panel: Panel,
     color_hvcc: &[u8],
     alpha_hvcc: &[u8],
@@ -97,11 +101,12 @@ pub fn plan_of(
     gain_tmap: &[u8],
     alternate_icc: &[u8],
 ) -> Plan
-    ensures { λ r. ⌜ Planned (panel-of panel (lent (now («color_hvcc» .entry)) (now («alpha_hvcc» .entry)) (now («color_lengths» .entry)) (now («alpha_lengths» .entry)) (now («color_samples» .entry)) (now («alpha_samples» .entry)) (now (icc .entry)) (now (exif .entry)) (now («gain_hvcc» .entry)) (now («gain_sample» .entry)) (now («gain_xmp» .entry)) (now («gain_tmap» .entry)) (now («alternate_icc» .entry)))) r ⌝ }
+    ensures { λ r. ⌜ Planned (form-of form) (panel-of panel (lent (now («color_hvcc» .entry)) (now («alpha_hvcc» .entry)) (now («color_lengths» .entry)) (now («alpha_lengths» .entry)) (now («color_samples» .entry)) (now («alpha_samples» .entry)) (now (icc .entry)) (now (exif .entry)) (now («gain_hvcc» .entry)) (now («gain_sample» .entry)) (now («gain_xmp» .entry)) (now («gain_tmap» .entry)) (now («alternate_icc» .entry)))) r ⌝ }
     ensures { λ r. ⌜ Fits (panel-of panel (lent (now («color_hvcc» .entry)) (now («alpha_hvcc» .entry)) (now («color_lengths» .entry)) (now («alpha_lengths» .entry)) (now («color_samples» .entry)) (now («alpha_samples» .entry)) (now (icc .entry)) (now (exif .entry)) (now («gain_hvcc» .entry)) (now («gain_sample» .entry)) (now («gain_xmp» .entry)) (now («gain_tmap» .entry)) (now («alternate_icc» .entry)))) ⌝ }
 {
     let fits = numbers_fit(panel);
     let first = first_checks(
+        form,
         panel,
         color_lengths,
         alpha_lengths,
@@ -127,7 +132,7 @@ pub fn plan_of(
     let color_rext = hvcc_uses_rext(color_hvcc);
     let gain_rext = gain_uses_rext(gain, gain_hvcc);
     let places = places_of(panel, shape);
-    let sizes = sizes_of(panel, shape, places, lengths, color_rext, gain_rext);
+    let sizes = sizes_of(form, panel, shape, places, lengths, color_rext, gain_rext);
     let length = file_size(sizes);
     if 4294967295 < length {
         return Plan::Refused(Refusal::FileLength);
@@ -148,7 +153,52 @@ pub fn plan_of(
     })
 }
 
-// The length of a panel's file, or why it is refused.
+// The length of a panel's file in a form, or why it is refused.
+// Above 40 lines by its parameters, one to a line: each byte part is a slice of its own.
+pub fn form_length(
+    form: FileForm,
+    panel: Panel,
+    color_hvcc: &[u8],
+    alpha_hvcc: &[u8],
+    color_lengths: &[u32],
+    alpha_lengths: &[u32],
+    color_samples: &[u8],
+    alpha_samples: &[u8],
+    icc: &[u8],
+    exif: &[u8],
+    gain_hvcc: &[u8],
+    gain_sample: &[u8],
+    gain_xmp: &[u8],
+    gain_tmap: &[u8],
+    alternate_icc: &[u8],
+) -> Answer
+    ensures { λ r. ⌜ says r ≡ length-answer (form-of form) (panel-of panel (lent (now («color_hvcc» .entry)) (now («alpha_hvcc» .entry)) (now («color_lengths» .entry)) (now («alpha_lengths» .entry)) (now («color_samples» .entry)) (now («alpha_samples» .entry)) (now (icc .entry)) (now (exif .entry)) (now («gain_hvcc» .entry)) (now («gain_sample» .entry)) (now («gain_xmp» .entry)) (now («gain_tmap» .entry)) (now («alternate_icc» .entry)))) ⌝ }
+    ensures { λ r. ⌜ Fits (panel-of panel (lent (now («color_hvcc» .entry)) (now («alpha_hvcc» .entry)) (now («color_lengths» .entry)) (now («alpha_lengths» .entry)) (now («color_samples» .entry)) (now («alpha_samples» .entry)) (now (icc .entry)) (now (exif .entry)) (now («gain_hvcc» .entry)) (now («gain_sample» .entry)) (now («gain_xmp» .entry)) (now («gain_tmap» .entry)) (now («alternate_icc» .entry)))) ⌝ }
+{
+    let plan = plan_of(
+        form,
+        panel,
+        color_hvcc,
+        alpha_hvcc,
+        color_lengths,
+        alpha_lengths,
+        color_samples,
+        alpha_samples,
+        icc,
+        exif,
+        gain_hvcc,
+        gain_sample,
+        gain_xmp,
+        gain_tmap,
+        alternate_icc,
+    );
+    match plan {
+        Plan::Refused(r) => Answer::Refused(r),
+        Plan::Made(file) => Answer::Length(file.length),
+    }
+}
+
+// The length of the ordinary file.
 // Above 40 lines by its parameters, one to a line: each byte part is a slice of its own.
 pub fn file_length(
     panel: Panel,
@@ -169,7 +219,8 @@ pub fn file_length(
     ensures { λ r. ⌜ says r ≡ length-answer ordinary (panel-of panel (lent (now («color_hvcc» .entry)) (now («alpha_hvcc» .entry)) (now («color_lengths» .entry)) (now («alpha_lengths» .entry)) (now («color_samples» .entry)) (now («alpha_samples» .entry)) (now (icc .entry)) (now (exif .entry)) (now («gain_hvcc» .entry)) (now («gain_sample» .entry)) (now («gain_xmp» .entry)) (now («gain_tmap» .entry)) (now («alternate_icc» .entry)))) ⌝ }
     ensures { λ r. ⌜ Fits (panel-of panel (lent (now («color_hvcc» .entry)) (now («alpha_hvcc» .entry)) (now («color_lengths» .entry)) (now («alpha_lengths» .entry)) (now («color_samples» .entry)) (now («alpha_samples» .entry)) (now (icc .entry)) (now (exif .entry)) (now («gain_hvcc» .entry)) (now («gain_sample» .entry)) (now («gain_xmp» .entry)) (now («gain_tmap» .entry)) (now («alternate_icc» .entry)))) ⌝ }
 {
-    let plan = plan_of(
+    form_length(
+        FileForm::Ordinary,
         panel,
         color_hvcc,
         alpha_hvcc,
@@ -184,9 +235,5 @@ pub fn file_length(
         gain_xmp,
         gain_tmap,
         alternate_icc,
-    );
-    match plan {
-        Plan::Refused(r) => Answer::Refused(r),
-        Plan::Made(file) => Answer::Length(file.length),
-    }
+    )
 }

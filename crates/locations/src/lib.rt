@@ -5,15 +5,19 @@ ghost use lib.ListN.{length};
 ghost use Rattle.octets.specs.Numbers.{total};
 ghost use Rattle.octets.specs.Stores.{Wrote};
 ghost use Rattle.panel.specs.Items.{ordinary};
+ghost use Rattle.panel.specs.Forms.{form-of};
 ghost use Rattle.panel.specs.Iloc.{entry, located};
 ghost use Rattle.locations.specs.Spans.{location, spans};
-use boxes::ids::write_id;
+use boxes::ids::ordinary_id;
+use boxes::ids::write_ordinary_id;
 use octets::w16;
 use octets::w32;
+use panel::FileForm;
 use panel::ItemId;
+use panel::WideItemId;
 
-// An item's id, its construction method, and its one extent.
-pub fn write_location(
+// The entry of an item in the ordinary form: its id, its construction method, and its one extent.
+pub fn write_ordinary_location(
     out: &mut [u8],
     at: usize,
     id: ItemId,
@@ -24,7 +28,7 @@ pub fn write_location(
     requires { ⌜ at + 16 ≤ length (now out) ⌝ }
     ensures { λ r. ⌜ Wrote (now (out .entry)) at 16 (entry ordinary (location (id .0) method offset size)) (now (out .exit)) r ⌝ }
 {
-    let a = write_id(out, at, id);
+    let a = write_ordinary_id(out, at, id);
     let b = w16(out, a, method);
     let c = w16(out, b, 0);
     let d = w16(out, c, 1);
@@ -32,18 +36,39 @@ pub fn write_location(
     w32(out, e, size)
 }
 
+// The entry of an item as the form has it.
+pub fn write_location(
+    out: &mut [u8],
+    at: usize,
+    form: FileForm,
+    id: WideItemId,
+    method: u16,
+    offset: u32,
+    size: u32,
+) -> usize
+    requires { ⌜ at + (14 + form-of form .id) ≤ length (now out) ⌝ }
+    ensures { λ r. ⌜ Wrote (now (out .entry)) at (14 + form-of form .id) (entry (form-of form) (location (id .0) method offset size)) (now (out .exit)) r ⌝ }
+{
+    match form {
+        FileForm::Ordinary => {
+            write_ordinary_location(out, at, ordinary_id(id), method, offset, size)
+        }
+    }
+}
+
 // The entries of tiles with ids from `first` on, whose samples lie back to back from `offset` on.
 pub fn write_tile_locations(
     out: &mut [u8],
     at: usize,
-    first: ItemId,
+    form: FileForm,
+    first: WideItemId,
     offset: u32,
     lengths: &[u32],
 ) -> usize
-    requires { ⌜ at + 16 * length (now lengths) ≤ length (now out) ⌝ }
-    requires { ⌜ first .0 + length (now lengths) ≤ 65535 ⌝ }
+    requires { ⌜ at + (14 + form-of form .id) * length (now lengths) ≤ length (now out) ⌝ }
+    requires { ⌜ first .0 + length (now lengths) < 4294967296 ⌝ }
     requires { ⌜ offset + total (now lengths) < 4294967296 ⌝ }
-    ensures { λ r. ⌜ Wrote (now (out .entry)) at (16 * length (now (lengths .entry))) (flatMap (entry ordinary) (located (first .0) 0 (spans offset (now (lengths .entry))))) (now (out .exit)) r ⌝ }
+    ensures { λ r. ⌜ Wrote (now (out .entry)) at ((14 + form-of form .id) * length (now (lengths .entry))) (flatMap (entry (form-of form)) (located (first .0) 0 (spans offset (now (lengths .entry))))) (now (out .exit)) r ⌝ }
 {
     let mut i = 0;
     let mut a = at;
@@ -51,7 +76,7 @@ pub fn write_tile_locations(
     let mut p = offset;
     while i < lengths.len() {
         let n = lengths[i];
-        a = write_location(out, a, ItemId(id), 0, p, n);
+        a = write_location(out, a, form, WideItemId(id), 0, p, n);
         id += 1;
         p += n;
         i += 1;

@@ -5,7 +5,7 @@ use native.Mathlib.Nat.{mul-le-mul}
 use native.Mathlib.Omega.{arith}
 use lib.ListN.{length}
 use Rattle.panel.specs.Panel.{Panel}
-use Rattle.panel.specs.Items.{ordinary, shape}
+use Rattle.panel.specs.Items.{Form, shape}
 use Rattle.panel.specs.Iloc.{locations, iloc}
 use Rattle.panel.specs.Iinf.{iinf}
 use Rattle.panel.specs.Iref.{iref}
@@ -24,14 +24,14 @@ use Rattle.offsets.specs.Laid.{Within}
 use Rattle.sizes.specs.declared.Sizes.{Sizes}
 
 -- nothing was capped
-record Exact (p : Panel) (z : Sizes) : Type 0 where
-  meta : z .meta ≡ 8 + meta-size ordinary p
+record Exact (f : Form) (p : Panel) (z : Sizes) : Type 0 where
+  meta : z .meta ≡ 8 + meta-size f p
   mdat : z .mdat ≡ 8 + mdat-size p
-  iprp : z .iprp ≡ 8 + iprp-size ordinary p
+  iprp : z .iprp ≡ 8 + iprp-size f p
   ipco : z .ipco ≡ 8 + ipco-size p
 
-exact-sizes : (p : Panel) (z : Sizes) → Sized p z → z .ftyp + z .meta + z .mdat ≤ 4294967295 → Exact p z
-exact-sizes p z s h =
+exact-sizes : (f : Form) (p : Panel) (z : Sizes) → Sized f p z → z .ftyp + z .meta + z .mdat ≤ 4294967295 → Exact f p z
+exact-sizes f p z s h =
     let meta = s .meta .whole (omega (arith, h, s .ftyp)) in
     let iprp = s .iprp .whole (omega (arith, h, s .ftyp, meta, s .iprp .below)) in
     record {
@@ -43,48 +43,48 @@ exact-sizes p z s h =
 
 -- ---- the sizes as lengths
 
-pub record As-lengths (p : Panel) (z : Sizes) : Type 0 where
+pub record As-lengths (f : Form) (p : Panel) (z : Sizes) : Type 0 where
   pub ftyp : z .ftyp ≡ 8 + length (head p .body)
-  pub iloc : z .iloc ≡ 8 + length (iloc ordinary (locations (data-at ordinary p) p) .body)
-  pub iinf : z .iinf ≡ 8 + length (iinf ordinary (shape p) .body)
-  pub iref : z .iref ≡ 8 + length (iref ordinary (shape p) .body)
-  pub iprp : z .iprp ≡ 8 + length (iprp ordinary p .body)
+  pub iloc : z .iloc ≡ 8 + length (iloc f (locations (data-at f p) p) .body)
+  pub iinf : z .iinf ≡ 8 + length (iinf f (shape p) .body)
+  pub iref : z .iref ≡ 8 + length (iref f (shape p) .body)
+  pub iprp : z .iprp ≡ 8 + length (iprp f p .body)
   pub ipco : z .ipco ≡ 8 + length (ipco p .body)
-  pub ipma : z .ipma ≡ 8 + length (ipma ordinary (associations (shape p) (positions 1 (slots p))) .body)
+  pub ipma : z .ipma ≡ 8 + length (ipma f (associations (shape p) (positions 1 (slots p))) .body)
   pub idat : z .idat ≡ 8 + length (idat (p .dims) .body)
-  pub meta : z .meta ≡ 8 + length (meta ordinary (locations (data-at ordinary p) p) p .body)
+  pub meta : z .meta ≡ 8 + length (meta f (locations (data-at f p) p) p .body)
   pub mdat : z .mdat ≡ 8 + length (mdat p .body)
-  pub data-at : z .ftyp + z .meta + 8 ≡ data-at ordinary p
+  pub data-at : z .ftyp + z .meta + 8 ≡ data-at f p
 
-pub as-lengths : (p : Panel) (z : Sizes) → Even p → Sized p z → z .ftyp + z .meta + z .mdat ≤ 4294967295 → As-lengths p z
-as-lengths p z e s h =
-    let x = exact-sizes p z s h in
-    let at = data-at ordinary p in
+pub as-lengths : (f : Form) (p : Panel) (z : Sizes) → Even p → Sized f p z → z .ftyp + z .meta + z .mdat ≤ 4294967295 → As-lengths f p z
+as-lengths f p z e s h =
+    let x = exact-sizes f p z s h in
+    let at = data-at f p in
     record {
       ftyp = omega (arith, s .ftyp, length-head p);
-      iloc = omega (arith, s .iloc, length-iloc ordinary at p e);
-      iinf = omega (arith, s .iinf, length-iinf ordinary (shape p));
-      iref = omega (arith, s .iref, length-iref ordinary (shape p));
-      iprp = omega (arith, x .iprp, length-iprp ordinary p);
+      iloc = omega (arith, s .iloc, length-iloc f at p e);
+      iinf = omega (arith, s .iinf, length-iinf f (shape p));
+      iref = omega (arith, s .iref, length-iref f (shape p));
+      iprp = omega (arith, x .iprp, length-iprp f p);
       ipco = omega (arith, x .ipco, length-ipco p);
-      ipma = omega (arith, s .ipma, length-ipma ordinary p);
+      ipma = omega (arith, s .ipma, length-ipma f p);
       idat = omega (arith, s .idat, length-idat (p .dims));
-      meta = omega (arith, x .meta, length-meta ordinary at p e);
+      meta = omega (arith, x .meta, length-meta f at p e);
       mdat = omega (arith, x .mdat, length-mdat p e);
-      data-at = omega (arith, s .ftyp, x .meta, data-at-size ordinary p e);
+      data-at = omega (arith, s .ftyp, x .meta, data-at-size f p e);
     }
 
 -- ---- accepted panels
 
-pub few-accepted : (p : Panel) → Accepted ordinary p → shape p .tiles ≤ 65536
-few-accepted p a = omega (arith, a .count, mul-le-mul (a .rows-most) (a .cols-most))
+pub few-accepted : (f : Form) (p : Panel) → Accepted f p → shape p .tiles ≤ 65536
+few-accepted f p a = omega (arith, a .count, mul-le-mul (a .rows-most) (a .cols-most))
 
 -- the boxes of an accepted panel make a file
-pub within : (p : Panel) (z : Sizes) → Accepted ordinary p → Sized p z → Within z (length (p .tiles .bytes)) (length (p .alpha .bytes))
-within p z a s =
-    let whole = length-file ordinary p (even-accepted ordinary p a) in
+pub within : (f : Form) (p : Panel) (z : Sizes) → Accepted f p → Sized f p z → Within z (length (p .tiles .bytes)) (length (p .alpha .bytes))
+within f p z a s =
+    let whole = length-file f p (even-accepted f p a) in
     let file : z .ftyp + z .meta + z .mdat ≤ 4294967295 = omega (arith, s .ftyp, s .meta .below, s .mdat .below, a .size, whole) in
-    let x = exact-sizes p z s file in
+    let x = exact-sizes f p z s file in
     record {
       file = file;
       iprp = omega (arith, x .meta, x .iprp);

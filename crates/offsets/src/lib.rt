@@ -1,6 +1,5 @@
 // Where each box of a file lies and where the payloads begin, from the sizes of the boxes; and the length of the file.
 ghost use Rattle.length.specs.Size.{size};
-ghost use Rattle.panel.specs.Items.{ordinary};
 ghost use Rattle.sizes.specs.Capped.{Capped};
 ghost use Rattle.sizes.specs.Sized.{Sized, Small};
 ghost use Rattle.offsets.specs.Laid.{Laid, Given, Within};
@@ -32,7 +31,7 @@ pub struct Layout {
 // The length of the file: the end of its last box, where each begins at the end of the one before it and the first at 0.
 pub fn file_size(z: Sizes) -> u64
     requires { ⌜ Small z ⌝ }
-    ensures { λ r. ⌜ ((p : _) → Sized p z → Capped 4294967296 r (size ordinary p)) ⌝ }
+    ensures { λ r. ⌜ ((f : _) (p : _) → Sized f p z → Capped 4294967296 r (size f p)) ⌝ }
 {
     let ftyp: u64 = 0;
     let meta = ftyp + z.ftyp as u64;
@@ -51,7 +50,7 @@ pub fn placed(
     gain_rext: bool,
 ) -> Layout
     requires { ⌜ Within z colors alphas ⌝ }
-    ensures { λ r. ⌜ ((p : _) → Given p z shape descriptor colors alphas «color_rext» «gain_rext» → Laid p r) ⌝ }
+    ensures { λ r. ⌜ ((f : _) (p : _) → Given f p z shape descriptor colors alphas «color_rext» «gain_rext» → Laid f p r) ⌝ }
 {
     let mdat = z.ftyp as u64 + z.meta;
     let color_data = mdat + 8;

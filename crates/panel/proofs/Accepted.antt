@@ -9,7 +9,7 @@ use Rattle.octets.specs.Numbers.{total}
 use Rattle.panel.specs.Panel.{Panel}
 use Rattle.panel.specs.Items.{Form, shape}
 use Rattle.panel.specs.File.{file}
-use Rattle.panel.specs.Refusal.{bad-side, bad-grid, differ, bad-counts, bad-sum, last-id, bad-id, too-long, refusal}
+use Rattle.panel.specs.Refusal.{bad-side, bad-grid, differ, bad-counts, bad-sum, last-id, bad-id, bad-items, too-long, refusal}
 
 pub record Accepted (f : Form) (p : Panel) : Type 0 where
   pub rows : 1 ≤ p .dims .rows
@@ -21,6 +21,7 @@ pub record Accepted (f : Form) (p : Panel) : Type 0 where
   pub sum : total (p .tiles .lengths) ≡ length (p .tiles .bytes)
   pub alpha-sum : total (p .alpha .lengths) ≡ length (p .alpha .bytes)
   pub last : last-id (shape p) < 2 ^ (8 * f .id)
+  pub few : shape p .tiles ≤ 65535
   pub size : length (file f p) < 2 ^ 32
 
 passed : (k : ℕ) (b : Bool) {r : ℕ} → _≡_ {A = ℕ} (elim b [ true ↦ suc k | false ↦ r ]) 0 → T (not b) × (r ≡ 0)
@@ -46,8 +47,9 @@ accepted f p e =
     let c1 = passed 0 (bad-grid (d .rows) (d .cols)) e in
     let c2 = passed 1 (bad-counts n (shape p .tiles) (length (p .alpha .lengths))) (c1 .1) in
     let c3 = passed 2 (bad-sum (p .tiles) || bad-sum (p .alpha)) (c2 .1) in
-    let c4 = passed 3 (bad-id (f .id) (last-id (shape p))) (c3 .1) in
+    let c4 = passed 3 (bad-items f (shape p)) (c3 .1) in
     let c5 = passed 4 (too-long (length (file f p))) (c4 .1) in
+    let items = neither (bad-id (f .id) (last-id (shape p))) (ltb 65535 (shape p .tiles)) (c4 .0) in
     let sides = neither (bad-side (d .rows)) (bad-side (d .cols)) (c1 .0) in
     let r = neither (ltb (d .rows) 1) (ltb 256 (d .rows)) (sides .0) in
     let k = neither (ltb (d .cols) 1) (ltb 256 (d .cols)) (sides .1) in
@@ -62,6 +64,7 @@ accepted f p e =
       alpha-count = same (length (p .alpha .lengths)) n (counts .1);
       sum = same (total (p .tiles .lengths)) (length (p .tiles .bytes)) (sums .0);
       alpha-sum = same (total (p .alpha .lengths)) (length (p .alpha .bytes)) (sums .1);
-      last = nleb→lt (2 ^ (8 * f .id)) (last-id (shape p)) (c4 .0);
+      last = nleb→lt (2 ^ (8 * f .id)) (last-id (shape p)) (items .0);
+      few = nltb→le 65535 (shape p .tiles) (items .1);
       size = omega (arith, nltb→le 4294967295 (length (file f p)) (c5 .0));
     }

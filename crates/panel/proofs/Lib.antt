@@ -1,4 +1,5 @@
 pub mod Ids
+pub mod Forms
 pub mod Codes
 pub mod Fields
 pub mod Properties

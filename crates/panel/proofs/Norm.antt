@@ -9,7 +9,7 @@ use Rattle.panel.specs.Panel.{Colour, Gain, Panel}
 use Rattle.panel.specs.Agreement.{stated, filled, shown, norm-gain, norm}
 use Rattle.panel.specs.Items.{Form, has, tone-of, shape}
 use Rattle.panel.specs.File.{file}
-use Rattle.panel.specs.Refusal.{bad-grid, bad-counts, bad-sum, last-id, bad-id, too-long, check, first, refusal}
+use Rattle.panel.specs.Refusal.{bad-grid, bad-counts, bad-sum, bad-items, too-long, check, first, refusal}
 use Rattle.panel.specs.declared.color.Cicp.{Cicp}
 
 -- p with another colour and another gain map
@@ -87,7 +87,7 @@ refusal-norm f p =
     first (check 1 (λ _. bad-grid (p .dims .rows) (p .dims .cols))
     ∷ check 2 (λ _. bad-counts (p .dims .rows * p .dims .cols) (length (p .tiles .lengths)) (length (p .alpha .lengths)))
     ∷ check 3 (λ _. bad-sum (p .tiles) || bad-sum (p .alpha))
-    ∷ check 4 (λ _. bad-id (f .id) (last-id (s i)))
+    ∷ check 4 (λ _. bad-items f (s i))
     ∷ check 5 (λ _. too-long (n i))
     ∷ [])
 

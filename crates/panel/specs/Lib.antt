@@ -3,6 +3,7 @@ pub mod Codes
 pub mod Panel
 pub mod Of
 pub mod Items
+pub mod Forms
 pub mod Iloc
 pub mod Iinf
 pub mod Iref

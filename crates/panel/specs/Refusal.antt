@@ -33,6 +33,10 @@ last-id s = alpha-grid s + cond (s .exif) 1 0 + cond (s .gain) 2 0 + cond (s .to
 abbrev pub bad-id : ℕ → ℕ → Bool
 bad-id k id = leb (2 ^ (8 * k)) id
 
+-- nor the tiles in the 16 bits that a reference has for their count
+abbrev pub bad-items : Form → Shape → Bool
+bad-items f s = bad-id (f .id) (last-id s) || ltb 65535 (s .tiles)
+
 abbrev pub too-long : ℕ → Bool
 too-long n = ltb 4294967295 n
 
@@ -55,7 +59,7 @@ checks f n p =
     check 1 (λ _. bad-grid (p .dims .rows) (p .dims .cols))
     ∷ check 2 (λ _. bad-counts (p .dims .rows * p .dims .cols) (length (p .tiles .lengths)) (length (p .alpha .lengths)))
     ∷ check 3 (λ _. bad-sum (p .tiles) || bad-sum (p .alpha))
-    ∷ check 4 (λ _. bad-id (f .id) (last-id (shape p)))
+    ∷ check 4 (λ _. bad-items f (shape p))
     ∷ check 5 (λ _. too-long n)
     ∷ []
 

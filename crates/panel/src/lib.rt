@@ -8,13 +8,34 @@ pub mod fmt;
 pub mod gain_map;
 pub mod metadata;
 
+ghost use Rattle.panel.specs.Forms.{form-of, Widths};
 use crate::color::ColorMetadata;
 use crate::fmt::BitDepth;
 use crate::gain_map::MaybeGainMap;
 use crate::metadata::Metadata;
 
-// An item's id. Not a property's position: neither is taken for the other.
+// The forms of a file, of which the caller chooses one. The definition `form-of` says what each is.
+pub enum FileForm {
+    Ordinary,
+}
+
+impl FileForm {
+    // Whether ids and counts of items take 32 bits; else they take 16.
+    pub fn is_wide(self) -> bool
+        ensures { λ r. ⌜ Widths r (form-of self) ⌝ }
+    {
+        match self {
+            FileForm::Ordinary => false,
+        }
+    }
+}
+
+// An item's id in the ordinary form. Not a property's position: neither is taken for the other.
 pub struct ItemId(pub u16);
+
+// An item's id as it is counted, before the form says how many bytes it takes. Of an absent item, or of a panel that is refused, it may be
+// more than the ordinary form holds.
+pub struct WideItemId(pub u32);
 
 // A property's position in ipco, counted from 1.
 pub struct PropertyPosition(pub u8);

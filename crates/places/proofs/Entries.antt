@@ -4,7 +4,7 @@ use mathlib.Core.List.{List, [], _∷_, _++_, flatMap}
 use Prim.Native.Nat.{ℕ, _+_}
 use Rattle.octets.specs.Numbers.{_‖_}
 use Rattle.octets.proofs.Lists.{flatMap-append}
-use Rattle.panel.specs.Items.{ordinary, given, gain-id, colour-grid, alpha-tile, alpha-grid}
+use Rattle.panel.specs.Items.{Form, given, gain-id, colour-grid, alpha-tile, alpha-grid}
 use Rattle.panel.specs.Ipma.{Association, _with_, each, essential, associations, association}
 use Rattle.panel.specs.declared.Shape.{Shape}
 use Rattle.boxes.specs.Runs.{places}
@@ -19,14 +19,14 @@ abbrev pub gain-entries : Shape → Places → List Association
 gain-entries s y =
     given (s .gain) ((gain-id s with image-list (y .image) (y .options .irot) (y .options .imir)) ∷ []) ‖ given (s .tone) ((gain-id s + 2 with tone-list (y .tone)) ∷ [])
 
-pub entries-joined : (s : Shape) (y : Places)
-    → flatMap (association ordinary) (color-entries s (y .color) (y .options)) ++ (flatMap (association ordinary) (alpha-entries s (y .color) (y .alpha) (turns-of (y .options))) ++ flatMap (association ordinary) (gain-entries s y))
-    ≡ flatMap (association ordinary) (associations s (its-of y))
+pub entries-joined : (f : Form) (s : Shape) (y : Places)
+    → flatMap (association f) (color-entries s (y .color) (y .options)) ++ (flatMap (association f) (alpha-entries s (y .color) (y .alpha) (turns-of (y .options))) ++ flatMap (association f) (gain-entries s y))
+    ≡ flatMap (association f) (associations s (its-of y))
 unfolding its-of
-entries-joined s y =
+entries-joined f s y =
     let c = y .color in
     let tiles = each 1 (s .tiles) (essential (places (c .hvcc)) ‖ essential (places (c .«ispe_tile»)) ‖ essential (places (c .colr))) in
     let alphas = each (alpha-tile s) (s .tiles) (essential (places (y .alpha .hvcc)) ‖ essential (places (c .«ispe_tile»))) in
-    ap (λ (r : List ℕ). flatMap (association ordinary) (color-entries s (y .color) (y .options)) ++ r) (sym (flatMap-append (association ordinary) (alpha-entries s (y .color) (y .alpha) (turns-of (y .options))) (gain-entries s y)))
-    ∙ sym (flatMap-append (association ordinary) (color-entries s (y .color) (y .options)) (alpha-entries s (y .color) (y .alpha) (turns-of (y .options)) ++ gain-entries s y))
-    ∙ ap (flatMap (association ordinary)) (pictures-joined tiles alphas (gain-entries s y) (colour-grid s with color-grid-list c (y .options)) (alpha-grid s with alpha-grid-list (c .«ispe_full») (y .alpha) (turns-of (y .options))))
+    ap (λ (r : List ℕ). flatMap (association f) (color-entries s (y .color) (y .options)) ++ r) (sym (flatMap-append (association f) (alpha-entries s (y .color) (y .alpha) (turns-of (y .options))) (gain-entries s y)))
+    ∙ sym (flatMap-append (association f) (color-entries s (y .color) (y .options)) (alpha-entries s (y .color) (y .alpha) (turns-of (y .options)) ++ gain-entries s y))
+    ∙ ap (flatMap (association f)) (pictures-joined tiles alphas (gain-entries s y) (colour-grid s with color-grid-list c (y .options)) (alpha-grid s with alpha-grid-list (c .«ispe_full») (y .alpha) (turns-of (y .options))))

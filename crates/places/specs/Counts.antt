@@ -1,6 +1,7 @@
 -- How many associations each item has, and how many bytes the entries of ipma take.
 use mathlib.Core.Bool.{cond}
 use Prim.Native.Nat.{ℕ, _+_, _*_}
+use Rattle.panel.specs.Items.{Form}
 use Rattle.panel.specs.declared.Shape.{Shape}
 use Rattle.boxes.specs.declared.association.Run.{Run}
 use Rattle.places.specs.declared.pictures.ColorPlaces.{ColorPlaces}
@@ -27,15 +28,15 @@ tone-count p = p .ispe .count + (p .pixi .count + p .colr .count)
 
 -- ---- the entries of each picture: its tiles, then its grid
 
-abbrev pub color-entries-size : Shape → ColorPlaces → OptionPlaces → ℕ
-color-entries-size s c o = (3 + (c .hvcc .count + (c .«ispe_tile» .count + c .colr .count))) * s .tiles + (3 + grid-count (c .«ispe_full») (c .colr) (c .pixi) o)
+abbrev pub color-entries-size : Form → Shape → ColorPlaces → OptionPlaces → ℕ
+color-entries-size f s c o = (f .id + 1 + (c .hvcc .count + (c .«ispe_tile» .count + c .colr .count))) * s .tiles + (f .id + 1 + grid-count (c .«ispe_full») (c .colr) (c .pixi) o)
 
-abbrev pub alpha-entries-size : Shape → ColorPlaces → AlphaPlaces → OptionPlaces → ℕ
-alpha-entries-size s c a o = (3 + (a .hvcc .count + c .«ispe_tile» .count)) * s .tiles + (3 + grid-count (c .«ispe_full») (a .pixi) (a .auxc) o)
+abbrev pub alpha-entries-size : Form → Shape → ColorPlaces → AlphaPlaces → OptionPlaces → ℕ
+alpha-entries-size f s c a o = (f .id + 1 + (a .hvcc .count + c .«ispe_tile» .count)) * s .tiles + (f .id + 1 + grid-count (c .«ispe_full») (a .pixi) (a .auxc) o)
 
 -- how many bytes ipma takes
-abbrev pub ipma-bytes : Shape → Places → ℕ
-ipma-bytes s y =
-    16 + (color-entries-size s (y .color) (y .options)
-    + (alpha-entries-size s (y .color) (y .alpha) (turns-of (y .options))
-    + (cond (s .gain) (3 + image-count (y .image) (y .options .irot) (y .options .imir)) 0 + cond (s .tone) (3 + tone-count (y .tone)) 0)))
+abbrev pub ipma-bytes : Form → Shape → Places → ℕ
+ipma-bytes f s y =
+    16 + (color-entries-size f s (y .color) (y .options)
+    + (alpha-entries-size f s (y .color) (y .alpha) (turns-of (y .options))
+    + (cond (s .gain) (f .id + 1 + image-count (y .image) (y .options .irot) (y .options .imir)) 0 + cond (s .tone) (f .id + 1 + tone-count (y .tone)) 0)))

@@ -3,6 +3,7 @@ ghost use mathlib.Core.Path.{_≡_};
 ghost use Prim.Native.Nat.{_+_, _*_, _≤_};
 ghost use Rattle.places.specs.Counts.{grid-count, image-count, tone-count, color-entries-size, alpha-entries-size, ipma-bytes};
 ghost use Rattle.places.specs.Roles.{Fit};
+ghost use Rattle.panel.specs.Forms.{form-of};
 ghost use Rattle.boxes.specs.Runs.{Fitting};
 ghost use Rattle.places.specs.Places.{Color-fits, Alpha-fits, Options-fit, Image-fits, Tone-fits};
 use crate::Places;
@@ -13,7 +14,9 @@ use crate::pictures::turns_of;
 use crate::positions::ImagePlaces;
 use crate::positions::TonePlaces;
 use boxes::association::Run;
+use boxes::form::ids_bytes;
 use octets::when;
+use panel::FileForm;
 use panel::Shape;
 
 // How many properties a grid has: ispe, two roles of its own, and those that may be absent.
@@ -61,23 +64,23 @@ pub fn tone_count(p: TonePlaces) -> u8
 }
 
 // How many bytes the entries of a picture take: those of n tiles with so many properties each, and that of its grid.
-fn entries_size(n: u32, tile: u8, grid: u8) -> u32
+fn entries_size(form: FileForm, n: u32, tile: u8, grid: u8) -> u32
     requires { ⌜ n ≤ 65536 ⌝ }
     requires { ⌜ tile ≤ 6 ⌝ }
     requires { ⌜ grid ≤ 14 ⌝ }
-    ensures { λ r. ⌜ r ≡ (3 + tile) * n + (3 + grid) ⌝ }
-    ensures { λ r. ⌜ r ≤ 590000 ⌝ }
+    ensures { λ r. ⌜ r ≡ (form-of form .id + 1 + tile) * n + (form-of form .id + 1 + grid) ⌝ }
+    ensures { λ r. ⌜ r ≤ 730000 ⌝ }
 {
-    (3 + tile) as u32 * n + (3 + grid) as u32
+    (1 + tile) as u32 * n + (1 + grid) as u32 + ids_bytes(form, n + 1)
 }
 
 // Those of the colour picture.
-fn color_entries_size(s: Shape, c: ColorPlaces, o: OptionPlaces) -> u32
+fn color_entries_size(form: FileForm, s: Shape, c: ColorPlaces, o: OptionPlaces) -> u32
     requires { ⌜ s .tiles ≤ 65536 ⌝ }
     requires { ⌜ Color-fits c ⌝ }
     requires { ⌜ Options-fit o ⌝ }
-    ensures { λ r. ⌜ r ≡ color-entries-size s c o ⌝ }
-    ensures { λ r. ⌜ r ≤ 590000 ⌝ }
+    ensures { λ r. ⌜ r ≡ color-entries-size (form-of form) s c o ⌝ }
+    ensures { λ r. ⌜ r ≤ 730000 ⌝ }
 {
     let hvcc = c.hvcc;
     let tile = c.ispe_tile;
@@ -86,17 +89,23 @@ fn color_entries_size(s: Shape, c: ColorPlaces, o: OptionPlaces) -> u32
     let pixi = c.pixi;
     let each = hvcc.count + (tile.count + colr.count);
     let grid = grid_count(full, colr, pixi, o);
-    entries_size(s.tiles, each, grid)
+    entries_size(form, s.tiles, each, grid)
 }
 
 // Those of the alpha picture, of whose properties that may be absent o has the transforms alone.
-fn alpha_entries_size(s: Shape, c: ColorPlaces, a: AlphaPlaces, o: OptionPlaces) -> u32
+fn alpha_entries_size(
+    form: FileForm,
+    s: Shape,
+    c: ColorPlaces,
+    a: AlphaPlaces,
+    o: OptionPlaces,
+) -> u32
     requires { ⌜ s .tiles ≤ 65536 ⌝ }
     requires { ⌜ Color-fits c ⌝ }
     requires { ⌜ Alpha-fits a ⌝ }
     requires { ⌜ Options-fit o ⌝ }
-    ensures { λ r. ⌜ r ≡ alpha-entries-size s c a o ⌝ }
-    ensures { λ r. ⌜ r ≤ 590000 ⌝ }
+    ensures { λ r. ⌜ r ≡ alpha-entries-size (form-of form) s c a o ⌝ }
+    ensures { λ r. ⌜ r ≤ 730000 ⌝ }
 {
     let hvcc = a.hvcc;
     let pixi = a.pixi;
@@ -105,15 +114,15 @@ fn alpha_entries_size(s: Shape, c: ColorPlaces, a: AlphaPlaces, o: OptionPlaces)
     let full = c.ispe_full;
     let each = hvcc.count + tile.count;
     let grid = grid_count(full, pixi, auxc, o);
-    entries_size(s.tiles, each, grid)
+    entries_size(form, s.tiles, each, grid)
 }
 
 // ipma, the whole box.
-pub fn ipma_bytes(s: Shape, y: Places) -> u32
+pub fn ipma_bytes(form: FileForm, s: Shape, y: Places) -> u32
     requires { ⌜ s .tiles ≤ 65536 ⌝ }
     requires { ⌜ Fit y ⌝ }
-    ensures { λ r. ⌜ r ≡ ipma-bytes s y ⌝ }
-    ensures { λ r. ⌜ r ≤ 1200000 ⌝ }
+    ensures { λ r. ⌜ r ≡ ipma-bytes (form-of form) s y ⌝ }
+    ensures { λ r. ⌜ r ≤ 1500000 ⌝ }
 {
     let color = y.color;
     let alpha = y.alpha;
@@ -122,10 +131,11 @@ pub fn ipma_bytes(s: Shape, y: Places) -> u32
     let tone = y.tone;
     let irot = options.irot;
     let imir = options.imir;
-    let colors = color_entries_size(s, color, options);
+    let colors = color_entries_size(form, s, color, options);
     let turns = turns_of(options);
-    let alphas = alpha_entries_size(s, color, alpha, turns);
-    let images = when(s.gain, 3 + image_count(image, irot, imir) as u32);
-    let tones = when(s.tone, 3 + tone_count(tone) as u32);
+    let alphas = alpha_entries_size(form, s, color, alpha, turns);
+    let head = ids_bytes(form, 1) + 1;
+    let images = when(s.gain, head + image_count(image, irot, imir) as u32);
+    let tones = when(s.tone, head + tone_count(tone) as u32);
     16 + (colors + (alphas + (images + tones)))
 }

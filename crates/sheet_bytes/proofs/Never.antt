@@ -13,7 +13,7 @@ use Rattle.panel.specs.Panel.{Colour, Gain, Panel}
 use Rattle.panel.specs.Items.{ordinary, has, given, shape}
 use Rattle.panel.specs.Iloc.{wide}
 use Rattle.panel.specs.File.{rext, gain-rext, file}
-use Rattle.panel.specs.Refusal.{bad-grid, differ, bad-counts, bad-sum, last-id, bad-id, too-long, refusal-in}
+use Rattle.panel.specs.Refusal.{bad-grid, differ, bad-counts, bad-sum, last-id, bad-id, bad-items, too-long, refusal-in}
 use Rattle.panel.specs.Widths.{Of}
 use Rattle.panel.specs.Answer.{refused, outcome, write-answer}
 use Rattle.panel.specs.declared.GridDims.{GridDims}
@@ -167,7 +167,7 @@ module _ (p : Panel) (b : Bounded p) where
   only room =
       let e2 : bad-counts (p .dims .rows * p .dims .cols) (length (p .tiles .lengths)) (length (p .alpha .lengths)) ≡ false = neither (alike (b .pictures .colour .count)) (alike (b .pictures .alpha .count)) in
       let e3 : (bad-sum (p .tiles) || bad-sum (p .alpha)) ≡ false = neither (alike (b .pictures .colour .sum)) (alike (b .pictures .alpha .sum)) in
-      let e4 : bad-id (ordinary .id) (last-id (shape p)) ≡ false = lt-leb _ _ id-small in
+      let e4 : bad-items ordinary (shape p) ≡ false = neither (lt-leb _ _ id-small) (le-ltb 65535 (shape p .tiles) (omega (arith, id-small))) in
       let e5 : too-long (length (file ordinary p)) ≡ false = le-ltb _ _ file-small in
       first-of (bad-grid (p .dims .rows) (p .dims .cols)) _ _ _ _ (ltb room (length (file ordinary p))) e2 e3 e4 e5
 

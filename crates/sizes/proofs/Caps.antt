@@ -4,7 +4,7 @@ use mathlib.Core.Bool.{Bool, true, false, cond}
 use Prim.Native.Nat.{ℕ, _+_, _≤_}
 use native.Mathlib.Omega.{arith}
 use Rattle.panel.specs.Panel.{Panel}
-use Rattle.panel.specs.Items.{ordinary, shape}
+use Rattle.panel.specs.Items.{Form, shape}
 use Rattle.length.specs.Properties.{ipco-size, ipma-size}
 use Rattle.length.specs.Size.{iloc-size, iinf-size, iref-size, iprp-size, grpl-size, idat-size, meta-size}
 use Rattle.sizes.specs.Capped.{Capped}
@@ -27,11 +27,11 @@ cond-most false k n h = h
 
 -- ---- the boxes around others
 
-module _ {t : ℕ} (p : Panel) where
-  pub iprp-capped : {a b : ℕ} → Capped t a (8 + ipco-size p) → b ≡ 8 + ipma-size ordinary p → Capped t (8 + a + b) (8 + iprp-size ordinary p)
+module _ {t : ℕ} (f : Form) (p : Panel) where
+  pub iprp-capped : {a b : ℕ} → Capped t a (8 + ipco-size p) → b ≡ 8 + ipma-size f p → Capped t (8 + a + b) (8 + iprp-size f p)
   iprp-capped {a} {b} ipco ipma = renamed (exact {k = 8} ⊕ ipco ⊕ exact {k = b}) refl (omega arith)
 
-  pub meta-capped : {a b c d e f : ℕ} → a ≡ 8 + iloc-size ordinary (shape p) → b ≡ 8 + iinf-size ordinary (shape p) → c ≡ 8 + iref-size ordinary (shape p)
-      → Capped t d (8 + iprp-size ordinary p) → e ≡ grpl-size (shape p) → f ≡ 8 + idat-size (p .dims)
-      → Capped t (59 + a + b + c + d + e + f) (8 + meta-size ordinary p)
-  meta-capped {a} {b} {c} {d} {e} {f} iloc iinf iref iprp grpl idat = renamed (exact {k = 59 + a + b + c} ⊕ iprp ⊕ exact {k = e} ⊕ exact {k = f}) refl (omega arith)
+  pub meta-capped : {a b c d e g h : ℕ} → a ≡ 8 + iloc-size f (shape p) → b ≡ 8 + iinf-size f (shape p) → c ≡ 8 + iref-size f (shape p)
+      → Capped t d (8 + iprp-size f p) → e ≡ grpl-size (shape p) → g ≡ 8 + idat-size (p .dims)
+      → h ≡ f .id → Capped t (57 + h + a + b + c + d + e + g) (8 + meta-size f p)
+  meta-capped {a} {b} {c} {d} {e} {g} {h} iloc iinf iref iprp grpl idat id = renamed (exact {k = 57 + h + a + b + c} ⊕ iprp ⊕ exact {k = e} ⊕ exact {k = g}) refl (omega arith)

@@ -2,22 +2,22 @@
 use mathlib.Core.Path.{_≡_}
 use Prim.Native.Nat.{_+_, _≤_}
 use Rattle.panel.specs.Panel.{Panel}
-use Rattle.panel.specs.Items.{ordinary, shape}
+use Rattle.panel.specs.Items.{Form, shape}
 use Rattle.length.specs.Properties.{ipco-size, ipma-size}
 use Rattle.length.specs.Size.{head-size, iloc-size, iinf-size, iref-size, iprp-size, idat-size, meta-size, mdat-size}
 use Rattle.sizes.specs.Capped.{Capped}
 use Rattle.sizes.specs.declared.Sizes.{Sizes}
 
-pub record Sized (p : Panel) (y : Sizes) : Type 0 where
+pub record Sized (f : Form) (p : Panel) (y : Sizes) : Type 0 where
   pub ftyp : y .ftyp ≡ 8 + head-size p
-  pub iloc : y .iloc ≡ 8 + iloc-size ordinary (shape p)
-  pub iinf : y .iinf ≡ 8 + iinf-size ordinary (shape p)
-  pub iref : y .iref ≡ 8 + iref-size ordinary (shape p)
-  pub ipma : y .ipma ≡ 8 + ipma-size ordinary p
+  pub iloc : y .iloc ≡ 8 + iloc-size f (shape p)
+  pub iinf : y .iinf ≡ 8 + iinf-size f (shape p)
+  pub iref : y .iref ≡ 8 + iref-size f (shape p)
+  pub ipma : y .ipma ≡ 8 + ipma-size f p
   pub idat : y .idat ≡ 8 + idat-size (p .dims)
   pub ipco : Capped 4294967295 (y .ipco) (8 + ipco-size p)
-  pub iprp : Capped 4294967295 (y .iprp) (8 + iprp-size ordinary p)
-  pub meta : Capped 4294967295 (y .meta) (8 + meta-size ordinary p)
+  pub iprp : Capped 4294967295 (y .iprp) (8 + iprp-size f p)
+  pub meta : Capped 4294967295 (y .meta) (8 + meta-size f p)
   pub mdat : Capped 4294967295 (y .mdat) (8 + mdat-size p)
 
 -- their sums do not wrap

@@ -6,7 +6,8 @@ pub mod properties;
 ghost use mathlib.Core.Path.{_≡_};
 ghost use Prim.Native.Nat.{_+_, _≤_};
 ghost use Rattle.panel.specs.Of.{Lent, panel-of, gain-of};
-ghost use Rattle.panel.specs.Items.{ordinary, shape};
+ghost use Rattle.panel.specs.Items.{shape};
+ghost use Rattle.panel.specs.Forms.{form-of};
 ghost use Rattle.panel.specs.File.{rext, gain-rext};
 ghost use Rattle.length.specs.Size.{ftyp-size, iloc-size, iinf-size, iref-size, idat-size, gain-data-size, mdat-size, size};
 ghost use Rattle.places.specs.Roles.{Placed, Fit};
@@ -17,11 +18,14 @@ use crate::lengths::Lengths;
 use crate::properties::data_size;
 use crate::properties::ipco_size;
 use crate::properties::part_size;
+use boxes::form::count_bytes;
+use boxes::form::ids_bytes;
 use boxes::ftyp::adds_heix;
 use boxes::ftyp::hvcc_uses_rext;
 use checks::shape::last_id;
 use grids::descriptor_length;
 use octets::when;
+use panel::FileForm;
 use panel::GridDims;
 use panel::Panel;
 use panel::Shape;
@@ -60,28 +64,33 @@ pub fn ftyp_size(color: bool, gain: bool, tone: bool) -> u32
     28 + when(adds_heix(color, gain), 4) + when(tone, 4)
 }
 
-// iloc, the whole box: an entry of 16 bytes for each item.
-pub fn iloc_size(s: Shape) -> u32
+// iloc, the whole box: an entry of an id and 14 bytes for each item.
+pub fn iloc_size(form: FileForm, s: Shape) -> u32
     requires { ⌜ s .tiles ≤ 65536 ⌝ }
-    ensures { λ r. ⌜ r ≡ 8 + iloc-size ordinary s ⌝ }
+    ensures { λ r. ⌜ r ≡ 8 + iloc-size (form-of form) s ⌝ }
 {
-    16 + 16 * last_id(s)
+    let n = last_id(s);
+    14 + 14 * n + count_bytes(form) + ids_bytes(form, n)
 }
 
-// iinf, the whole box: an entry of 21 bytes for each item, and the content type of XMP.
-pub fn iinf_size(s: Shape) -> u32
+// iinf, the whole box: an entry of an id and 19 bytes for each item, and the content type of XMP.
+pub fn iinf_size(form: FileForm, s: Shape) -> u32
     requires { ⌜ s .tiles ≤ 65536 ⌝ }
-    ensures { λ r. ⌜ r ≡ 8 + iinf-size ordinary s ⌝ }
+    ensures { λ r. ⌜ r ≡ 8 + iinf-size (form-of form) s ⌝ }
 {
-    14 + 21 * last_id(s) + when(s.gain, 20)
+    let n = last_id(s);
+    12 + 19 * n + count_bytes(form) + ids_bytes(form, n) + when(s.gain, 20)
 }
 
-// iref, the whole box: references of 12 bytes, and two for each item referred to.
-pub fn iref_size(s: Shape) -> u32
+// iref, the whole box: references of an id and 10 bytes, and an id for each item referred to.
+pub fn iref_size(form: FileForm, s: Shape) -> u32
     requires { ⌜ s .tiles ≤ 65536 ⌝ }
-    ensures { λ r. ⌜ r ≡ 8 + iref-size ordinary s ⌝ }
+    ensures { λ r. ⌜ r ≡ 8 + iref-size (form-of form) s ⌝ }
 {
-    50 + 4 * s.tiles + when(s.exif, 14) + when(s.gain, 28) + when(s.tone, 16)
+    let one = 10 + ids_bytes(form, 2);
+    let two = 10 + ids_bytes(form, 3);
+    let tiles = 10 + ids_bytes(form, s.tiles + 1);
+    12 + 2 * tiles + one + when(s.exif, one) + when(s.gain, 2 * one) + when(s.tone, two)
 }
 
 // idat, the whole box: two descriptors.
@@ -123,21 +132,30 @@ pub fn mdat_size(panel: Panel, y: Lengths) -> u64
 
 // The size of every box, that of ipma from the places of the properties. color and gain: the record is of the range extensions' profile.
 // Nine calls: one for each box whose size is worked out, and the group of a tone map.
-pub fn sizes_of(panel: Panel, s: Shape, z: Places, y: Lengths, color: bool, gain: bool) -> Sizes
+pub fn sizes_of(
+    form: FileForm,
+    panel: Panel,
+    s: Shape,
+    z: Places,
+    y: Lengths,
+    color: bool,
+    gain: bool,
+) -> Sizes
     requires { ⌜ s .tiles ≤ 65536 ⌝ }
     requires { ⌜ Fit z ⌝ }
-    ensures { λ r. ⌜ ((l : Lent) → Measured l y → s ≡ shape (panel-of panel l) → Placed (panel-of panel l) z → color ≡ rext (l .tiles .config) → gain ≡ gain-rext (gain-of (panel .«gain_map») l) → Sized (panel-of panel l) r) ⌝ }
+    ensures { λ r. ⌜ ((l : Lent) → Measured l y → s ≡ shape (panel-of panel l) → Placed (panel-of panel l) z → color ≡ rext (l .tiles .config) → gain ≡ gain-rext (gain-of (panel .«gain_map») l) → Sized (form-of form) (panel-of panel l) r) ⌝ }
     ensures { λ r. ⌜ Small r ⌝ }
 {
     let dims = panel.dims;
-    let iloc = iloc_size(s);
-    let iinf = iinf_size(s);
-    let iref = iref_size(s);
-    let ipma = ipma_bytes(s, z);
+    let iloc = iloc_size(form, s);
+    let iinf = iinf_size(form, s);
+    let iref = iref_size(form, s);
+    let ipma = ipma_bytes(form, s, z);
     let idat = idat_size(dims);
     let ipco = ipco_size(panel, y);
     let iprp = 8 + ipco + ipma as u64;
-    let meta = 59
+    let meta = 57
+        + ids_bytes(form, 1) as u64
         + iloc as u64
         + iinf as u64
         + iref as u64

@@ -9,7 +9,7 @@ use Rattle.octets.specs.Numbers.{_‖_, total}
 use Rattle.octets.specs.Boxes.{Box, box, full, boxes}
 use Rattle.panel.specs.Panel.{Tiles, Panel}
 use Rattle.panel.specs.Of.{Lent, panel-of, part, gain-of}
-use Rattle.panel.specs.Items.{ordinary, given, has, listed, tone-of, shape, exif-payload, gain-payloads, other-payloads, colour-grid, alpha-tile, alpha-grid, exif-id}
+use Rattle.panel.specs.Items.{Form, given, has, listed, tone-of, shape, exif-payload, gain-payloads, other-payloads, colour-grid, alpha-tile, alpha-grid, exif-id}
 use Rattle.panel.specs.Iloc.{Location, descriptor, extents, located, locations}
 use Rattle.panel.specs.Ipco.{slots, ipco}
 use Rattle.panel.specs.Ipma.{positions, associations, ipma}
@@ -92,7 +92,7 @@ placed-locations p h at {os} ho =
 
 -- ---- the file
 
-module _ (n : Numbers) (l : Lent) (y : Layout) (z : Places) (ok : refusal ordinary (panel-of n l) ≡ 0) (e : Laid (panel-of n l) y) (f : Placed (panel-of n l) z) where
+module _ (n : Numbers) (l : Lent) (w : Form) (y : Layout) (z : Places) (ok : refusal w (panel-of n l) ≡ 0) (e : Laid w (panel-of n l) y) (f : Placed (panel-of n l) z) where
   abbrev p : Panel
   p = panel-of n l
 
@@ -102,11 +102,11 @@ module _ (n : Numbers) (l : Lent) (y : Layout) (z : Places) (ok : refusal ordina
       placed (y .shape) (y .descriptor) (y .«color_data») (y .«alpha_data») (y .«other_data») (l .tiles .lengths) (l .alpha .lengths)
       (other-sizes (y .shape) (exif-size (part (n .metadata .exif) (l .exif))) (gain-lengths (n .«gain_map») (l .gain-sample) (l .gain-xmp) (l .gain-tmap)))
 
-  its-locations : its-places ≡ locations (data-at ordinary p) p
+  its-locations : its-places ≡ locations (data-at w p) p
   its-locations =
       (λ i. placed (e .items i) (e .grid i) (e .color-data i) (e .alpha-data i) (e .other-data i) (sym (same-tiles n l) i .lengths) (sym (same-alpha n l) i .lengths)
       (other-sizes (e .items i) (exif-size (part (n .metadata .exif) (l .exif))) (gain-lengths (n .«gain_map») (l .gain-sample) (l .gain-xmp) (l .gain-tmap))))
-      ∙ placed-locations p (even n l y z ok e f) (data-at ordinary p) (other-lengths n l)
+      ∙ placed-locations p (even n l w y z ok e f) (data-at w p) (other-lengths n l)
 
   abbrev pub its-meta : Box
   its-meta =
@@ -115,28 +115,28 @@ module _ (n : Numbers) (l : Lent) (y : Layout) (z : Places) (ok : refusal ordina
       0
       0
       (boxes
-      (item-boxes (y .shape) its-places
-      ‖ property-boxes (panel-of n (lent-props (l .tiles .config) (l .alpha .config) (l .icc) (l .gain-hvcc) (l .alternate-icc))) (y .shape) z (n .dims)))
+      (item-boxes w (y .shape) its-places
+      ‖ property-boxes w (panel-of n (lent-props (l .tiles .config) (l .alpha .config) (l .icc) (l .gain-hvcc) (l .alternate-icc))) (y .shape) z (n .dims)))
 
-  made-meta : its-meta ≡ meta ordinary (locations (data-at ordinary p) p) p
+  made-meta : its-meta ≡ meta w (locations (data-at w p) p) p
   made-meta =
       let c : ipco (panel-of n (lent-props (l .tiles .config) (l .alpha .config) (l .icc) (l .gain-hvcc) (l .alternate-icc))) ≡ ipco p = sym (ipco-parts n l) in
-      let a : associations (shape p) (its-of z) ≡ associations (shape p) (positions 1 (slots p)) = same-associations n l y z ok e f in
+      let a : associations (shape p) (its-of z) ≡ associations (shape p) (positions 1 (slots p)) = same-associations n l w y z ok e f in
       let d : n .dims ≡ p .dims = sym (same-dims n l) in
-      (λ i. full "meta" 0 0 (boxes (item-boxes (e .items i) (its-locations i) ‖ box "iprp" (boxes (c i ∷ ipma ordinary (associations (e .items i) (its-of z)) ∷ [])) ∷ grpl (e .items i) ‖ idat (d i) ∷ [])))
-      ∙ (λ i. full "meta" 0 0 (boxes (item-boxes (shape p) (locations (data-at ordinary p) p) ‖ box "iprp" (boxes (ipco p ∷ ipma ordinary (a i) ∷ [])) ∷ grpl (shape p) ‖ idat (p .dims) ∷ [])))
+      (λ i. full "meta" 0 0 (boxes (item-boxes w (e .items i) (its-locations i) ‖ box "iprp" (boxes (c i ∷ ipma w (associations (e .items i) (its-of z)) ∷ [])) ∷ grpl (e .items i) ‖ idat (d i) ∷ [])))
+      ∙ (λ i. full "meta" 0 0 (boxes (item-boxes w (shape p) (locations (data-at w p) p) ‖ box "iprp" (boxes (ipco p ∷ ipma w (a i) ∷ [])) ∷ grpl (shape p) ‖ idat (p .dims) ∷ [])))
 
   abbrev pub its-mdat : Box
   its-mdat =
       box "mdat" (l .tiles .bytes ‖ l .alpha .bytes ‖ exif-bytes (part (n .metadata .exif) (l .exif)) ‖ gain-data (n .«gain_map») (l .gain-sample) (l .gain-xmp) (l .gain-tmap))
 
   made-mdat : its-mdat ≡ mdat p
-  made-mdat = sym (mdat-parts n l (color-sum n l y z ok e f) (alpha-sum n l y z ok e f))
+  made-mdat = sym (mdat-parts n l (color-sum n l w y z ok e f) (alpha-sum n l w y z ok e f))
 
   made-head : ftyp (y .«color_rext») (y .«gain_rext») (y .shape .tone) ≡ head p
   made-head = λ i. ftyp (e .color-rext i) (e .gain-rext i) (e .items i .tone)
 
-  pub made-file : boxes (ftyp (y .«color_rext») (y .«gain_rext») (y .shape .tone) ∷ its-meta ∷ its-mdat ∷ []) ≡ file ordinary p
+  pub made-file : boxes (ftyp (y .«color_rext») (y .«gain_rext») (y .shape .tone) ∷ its-meta ∷ its-mdat ∷ []) ≡ file w p
   unfolding file
   made-file = λ i. boxes (made-head i ∷ made-meta i ∷ made-mdat i ∷ [])
 
@@ -145,18 +145,18 @@ module _ (n : Numbers) (l : Lent) (y : Layout) (z : Places) (ok : refusal ordina
       → boxes (
       ftyp (y .«color_rext») (y .«gain_rext») (y .shape .tone)
       ∷ full "meta" 0 0 (boxes (
-      item-boxes (y .shape) (placed (y .shape) (y .descriptor) (y .«color_data») (y .«alpha_data») (y .«other_data») (l .tiles .lengths) (l .alpha .lengths) (other-sizes (y .shape) x g))
-      ‖ property-boxes (panel-of n (lent-props (l .tiles .config) (l .alpha .config) (l .icc) (l .gain-hvcc) (l .alternate-icc))) (y .shape) z (n .dims)
+      item-boxes w (y .shape) (placed (y .shape) (y .descriptor) (y .«color_data») (y .«alpha_data») (y .«other_data») (l .tiles .lengths) (l .alpha .lengths) (other-sizes (y .shape) x g))
+      ‖ property-boxes w (panel-of n (lent-props (l .tiles .config) (l .alpha .config) (l .icc) (l .gain-hvcc) (l .alternate-icc))) (y .shape) z (n .dims)
       ))
       ∷ its-mdat
       ∷ []
-      ) ≡ file ordinary p
+      ) ≡ file w p
   made-file-of hx hg =
       (λ i. boxes (
       ftyp (y .«color_rext») (y .«gain_rext») (y .shape .tone)
       ∷ full "meta" 0 0 (boxes (
-      item-boxes (y .shape) (placed (y .shape) (y .descriptor) (y .«color_data») (y .«alpha_data») (y .«other_data») (l .tiles .lengths) (l .alpha .lengths) (other-sizes (y .shape) (hx i) (hg i)))
-      ‖ property-boxes (panel-of n (lent-props (l .tiles .config) (l .alpha .config) (l .icc) (l .gain-hvcc) (l .alternate-icc))) (y .shape) z (n .dims)
+      item-boxes w (y .shape) (placed (y .shape) (y .descriptor) (y .«color_data») (y .«alpha_data») (y .«other_data») (l .tiles .lengths) (l .alpha .lengths) (other-sizes (y .shape) (hx i) (hg i)))
+      ‖ property-boxes w (panel-of n (lent-props (l .tiles .config) (l .alpha .config) (l .icc) (l .gain-hvcc) (l .alternate-icc))) (y .shape) z (n .dims)
       ))
       ∷ its-mdat
       ∷ []

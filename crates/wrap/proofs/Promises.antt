@@ -10,7 +10,7 @@ use borrow.Author.Tests.{lt-ltb, le-ltb}
 use Rattle.octets.specs.Stores.{Wrote}
 use Rattle.octets.proofs.Stores.{front}
 use Rattle.panel.specs.Panel.{Panel}
-use Rattle.panel.specs.Items.{ordinary}
+use Rattle.panel.specs.Items.{Form}
 use Rattle.panel.specs.File.{file}
 use Rattle.panel.specs.Refusal.{Check, check, first, checks, refusal, refusal-in}
 use Rattle.panel.specs.Answer.{Outcome, made, refused, number, says, outcome, length-answer, write-answer, left, after, Promised}
@@ -50,44 +50,44 @@ refused-suc : (r n k : ℕ) → refused (suc k) ≡ outcome r n → r ≡ suc k
 refused-suc zero n k e = absurd (let z : _≡_ {A = ℕ} 0 1 = cc in omega arith)
 refused-suc (suc r) n k e = cc
 
-module _ (p : Panel) where
+module _ (w : Form) (p : Panel) where
   abbrev long : ℕ
-  long = length (file ordinary p)
+  long = length (file w p)
 
   abbrev room-check : ℕ → List Check
   room-check room = check 6 (λ _. ltb room long) ∷ []
 
-  numbered : Numbered (checks ordinary long p)
+  numbered : Numbered (checks w long p)
   numbered = (omega arith, (omega arith, (omega arith, (omega arith, (omega arith, tt)))))
 
-  one-more : (room : ℕ) → refusal ordinary p ≡ 0 → refusal-in ordinary room p ≡ first (room-check room)
+  one-more : (room : ℕ) → refusal w p ≡ 0 → refusal-in w room p ≡ first (room-check room)
   unfolding refusal refusal-in
-  one-more room e = goes-on (checks ordinary long p) (room-check room) numbered e
+  one-more room e = goes-on (checks w long p) (room-check room) numbered e
 
-  in-room : (room : ℕ) → refusal ordinary p ≡ 0 → long ≤ room → refusal-in ordinary room p ≡ 0
+  in-room : (room : ℕ) → refusal w p ≡ 0 → long ≤ room → refusal-in w room p ≡ 0
   in-room room e h = one-more room e ∙ ap (λ (b : Bool). elim b [ true ↦ 6 | false ↦ 0 ]) (le-ltb room long h)
 
-  no-room : (room : ℕ) → refusal ordinary p ≡ 0 → room < long → refusal-in ordinary room p ≡ 6
+  no-room : (room : ℕ) → refusal w p ≡ 0 → room < long → refusal-in w room p ≡ 6
   no-room room e h = one-more room e ∙ ap (λ (b : Bool). elim b [ true ↦ 6 | false ↦ 0 ]) (lt-ltb room long h)
 
-  still : (room k : ℕ) → refusal ordinary p ≡ suc k → refusal-in ordinary room p ≡ suc k
+  still : (room k : ℕ) → refusal w p ≡ suc k → refusal-in w room p ≡ suc k
   unfolding refusal refusal-in
-  still room k e = stands (checks ordinary long p) (room-check room) k e
+  still room k e = stands (checks w long p) (room-check room) k e
 
-  answers : (old : List ℕ) {k : ℕ} → refusal-in ordinary (length old) p ≡ k → outcome k long ≡ write-answer ordinary p (length old)
+  answers : (old : List ℕ) {k : ℕ} → refusal-in w (length old) p ≡ k → outcome k long ≡ write-answer w p (length old)
   unfolding write-answer
   answers old e = ap (λ (r : ℕ). outcome r long) (sym e)
 
   -- from the answer to the output
-  promise : (old : List ℕ) (o : Outcome) {new : List ℕ} → o ≡ write-answer ordinary p (length old) → new ≡ left o (file ordinary p) old → Promised ordinary p old o new
+  promise : (old : List ℕ) (o : Outcome) {new : List ℕ} → o ≡ write-answer w p (length old) → new ≡ left o (file w p) old → Promised w p old o new
   unfolding after
-  promise old o e h = record { answer = e; output = h ∙ ap (λ (x : Outcome). left x (file ordinary p) old) e }
+  promise old o e h = record { answer = e; output = h ∙ ap (λ (x : Outcome). left x (file w p) old) e }
 
-  by-number : (old : List ℕ) (k : ℕ) → refused (suc k) ≡ length-answer ordinary p → Promised ordinary p old (refused (suc k)) old
+  by-number : (old : List ℕ) (k : ℕ) → refused (suc k) ≡ length-answer w p → Promised w p old (refused (suc k)) old
   unfolding length-answer
-  by-number old k e = promise old (refused (suc k)) (answers old (still (length old) k (refused-suc (refusal ordinary p) long k e))) refl
+  by-number old k e = promise old (refused (suc k)) (answers old (still (length old) k (refused-suc (refusal w p) long k e))) refl
 
-  pub by-refusal : (old : List ℕ) (r : Refusal) → refused (number r) ≡ length-answer ordinary p → Promised ordinary p old (says (Refused r)) old
+  pub by-refusal : (old : List ℕ) (r : Refusal) → refused (number r) ≡ length-answer w p → Promised w p old (says (Refused r)) old
   by-refusal old GridSide e = by-number old 0 e
   by-refusal old TileCount e = by-number old 1 e
   by-refusal old SampleLengths e = by-number old 2 e
@@ -96,9 +96,9 @@ module _ (p : Panel) where
   by-refusal old OutputLength e = by-number old 5 e
 
   -- the plan is made
-  module _ {f : FilePlan} (m : Made-from p f) where
-    pub by-room : (old : List ℕ) → length old < f .length → Promised ordinary p old (says (Refused OutputLength)) old
+  module _ {f : FilePlan} (m : Made-from w p f) where
+    pub by-room : (old : List ℕ) → length old < f .length → Promised w p old (says (Refused OutputLength)) old
     by-room old h = promise old (refused 6) (answers old (no-room (length old) (m .accepted) (omega (arith, m .long, h)))) refl
 
-    pub by-writing : {old new : List ℕ} {n r : ℕ} → f .length ≤ length old → Wrote old 0 n (file ordinary p) new r → Promised ordinary p old (says (Length (f .length))) new
+    pub by-writing : {old new : List ℕ} {n r : ℕ} → f .length ≤ length old → Wrote old 0 n (file w p) new r → Promised w p old (says (Length (f .length))) new
     by-writing {old} h v = promise old (made (f .length)) (ap made (m .long) ∙ answers old (in-room (length old) (m .accepted) (omega (arith, m .long, h)))) (front v (omega (arith, m .long, h, v .size)))

@@ -9,7 +9,7 @@ use lib.ListN.{length}
 use Rattle.octets.specs.Numbers.{total}
 use Rattle.panel.specs.Panel.{Tiles, Panel, Gain}
 use Rattle.panel.specs.Of.{Lent, panel-of, part}
-use Rattle.panel.specs.Items.{ordinary, has, tone-of, shape}
+use Rattle.panel.specs.Items.{Form, has, tone-of, shape}
 use Rattle.panel.specs.Ipco
 use Rattle.panel.specs.Ipco.{slots, ipco}
 use Rattle.panel.specs.Ipma.{positions, associations, ipma}
@@ -72,67 +72,66 @@ module _ (n : Numbers) (l : Lent) where
   unfolding panel-of
   same-alpha = refl
 
-  module _ (y : Layout) (z : Places) (ok : refusal ordinary (panel-of n l) ≡ 0) (e : Laid (panel-of n l) y) (f : Placed (panel-of n l) z) where
+  module _ (w : Form) (y : Layout) (z : Places) (ok : refusal w (panel-of n l) ≡ 0) (e : Laid w (panel-of n l) y) (f : Placed (panel-of n l) z) where
     abbrev p : Panel
     p = panel-of n l
 
     abbrev q : Panel
     q = panel-of n its-props
 
-    pub good : Accepted ordinary p
-    good = accepted ordinary p ok
+    pub good : Accepted w p
+    good = accepted w p ok
 
     pub even : Even p
-    even = even-accepted ordinary p good
+    even = even-accepted w p good
 
-    fits : size ordinary p < 4294967296
-    fits = omega (arith, length-file ordinary p even, good .size)
+    fits : size w p < 4294967296
+    fits = omega (arith, length-file w p even, good .size)
 
     pub shaped : Shaped (y .shape)
     shaped =
-        let h : last-id (shape p) < 65536 = good .last in
         let at : y .shape ≡ shape p = e .items in
         record {
-          last = omega (arith, h, ap last-id at);
+          few = omega (arith, good .few, ap (λ (s : Shape). s .tiles) at);
           toned = λ t. ap (λ (s : Shape). s .gain) at ∙ toned-only (p .gain) (sym (ap (λ (s : Shape). s .tone) at) ∙ t);
         }
 
     pub sided : Sided (n .dims)
     sided = rw (← same-dims) (record { rows = good .rows; rows-most = good .rows-most; cols = good .cols; cols-most = good .cols-most })
 
-    pub item-sizes : Item-sizes y
+    pub item-sizes : Item-sizes w y
     item-sizes =
         let at : shape p ≡ y .shape = sym (e .items) in
         record {
           shaped = shaped;
-          iloc = e .iloc ∙ ap (λ (k : ℕ). 8 + k) (length-iloc ordinary (data-at ordinary p) p even ∙ ap (iloc-size ordinary) at);
-          iinf = e .iinf ∙ ap (λ (k : ℕ). 8 + k) (length-iinf ordinary (shape p) ∙ ap (iinf-size ordinary) at);
-          iref = e .iref ∙ ap (λ (k : ℕ). 8 + k) (length-iref ordinary (shape p) ∙ ap (iref-size ordinary) at);
+          iloc = e .iloc ∙ ap (λ (k : ℕ). 8 + k) (length-iloc w (data-at w p) p even ∙ ap (iloc-size w) at);
+          iinf = e .iinf ∙ ap (λ (k : ℕ). 8 + k) (length-iinf w (shape p) ∙ ap (iinf-size w) at);
+          iref = e .iref ∙ ap (λ (k : ℕ). 8 + k) (length-iref w (shape p) ∙ ap (iref-size w) at);
         }
 
     pub same-associations : associations (shape p) (its-of z) ≡ associations (shape p) (positions 1 (slots p))
     same-associations = associated-alike p z f
 
-    its-ipma : 8 + ipma-size ordinary p ≡ ipma-bytes (shape p) z
-    its-ipma = ipma-by-runs p z f
+    its-ipma : 8 + ipma-size w p ≡ ipma-bytes w (shape p) z
+    its-ipma = ipma-by-runs w p z f
 
-    pub property-sizes : Property-sizes q y z (n .dims)
+    pub property-sizes : Property-sizes w q y z (n .dims)
     property-sizes =
         let at : shape p ≡ y .shape = sym (e .items) in
         record {
           ipco = e .ipco ∙ ap (λ (k : ℕ). 8 + k) (length-ipco p ∙ ipco-size-parts n l);
-          ipma = e .ipma ∙ ap (λ (k : ℕ). 8 + k) (length-ipma ordinary p) ∙ its-ipma ∙ ap (λ (s : Shape). ipma-bytes s z) at;
-          iprp = e .iprp ∙ ap (λ (k : ℕ). 8 + k) (length-iprp ordinary p) ∙ (λ i. 8 + ((8 + ipco-size-parts n l i) + its-ipma i)) ∙ ap (λ (s : Shape). iprp-bytes q s z) at;
+          ipma = e .ipma ∙ ap (λ (k : ℕ). 8 + k) (length-ipma w p) ∙ its-ipma ∙ ap (λ (s : Shape). ipma-bytes w s z) at;
+          iprp = e .iprp ∙ ap (λ (k : ℕ). 8 + k) (length-iprp w p) ∙ (λ i. 8 + ((8 + ipco-size-parts n l i) + its-ipma i)) ∙ ap (λ (s : Shape). iprp-bytes w q s z) at;
           idat = omega (arith, e .idat, length-idat (p .dims)) ∙ ap idat-bytes same-dims;
           short = omega (arith, fits, ipco-size-parts n l);
         }
 
-    pub meta-sum : y .meta ≡ 12 + (item-boxes-size (y .shape) + property-boxes-size q (y .shape) z (n .dims))
+    pub meta-sum : y .meta ≡ 12 + (item-boxes-size w (y .shape) + property-boxes-size w q (y .shape) z (n .dims))
     meta-sum =
         let at : shape p ≡ y .shape = sym (e .items) in
-        let x : y .meta ≡ 12 + (item-boxes-size (shape p) + property-boxes-size q (shape p) z (p .dims))
-        = omega (arith, e .meta, length-meta ordinary (data-at ordinary p) p even, ipco-size-parts n l, its-ipma) in
-        x ∙ (λ i. 12 + (item-boxes-size (at i) + property-boxes-size q (at i) z (same-dims i)))
+        let x : y .meta ≡ 12 + (item-boxes-size w (shape p) + property-boxes-size w q (shape p) z (p .dims))
+        = omega (arith, e .meta, length-meta w (data-at w p) p even, ipco-size-parts n l, its-ipma) in
+        x ∙ (λ i. 12 + (item-boxes-size w (at i) + property-boxes-size w q (at i) z (same-dims i)))
 
     pub ftyp-sum : y .ftyp ≡ ftyp-size (y .«color_rext») (y .«gain_rext») (y .shape .tone)
     ftyp-sum =
@@ -160,8 +159,8 @@ module _ (n : Numbers) (l : Lent) where
     pub alpha-sum : total (l .alpha .lengths) ≡ length (l .alpha .bytes)
     alpha-sum = ap (λ (t : Tiles). total (t .lengths)) (sym same-alpha) ∙ even .alpha-sum ∙ ap (λ (t : Tiles). length (t .bytes)) same-alpha
 
-    color-at : y .«color_data» + mdat-bytes ≡ 8 + size ordinary p
-    color-at = omega (arith, e .color-data, data-at-size ordinary p even, its-mdat)
+    color-at : y .«color_data» + mdat-bytes ≡ 8 + size w p
+    color-at = omega (arith, e .color-data, data-at-size w p even, its-mdat)
 
     pub color-end : y .«color_data» + total (l .tiles .lengths) < 4294967296
     color-end = omega (arith, fits, color-at, color-sum)
@@ -184,9 +183,9 @@ module _ (n : Numbers) (l : Lent) where
         )
 
     -- the whole file
-    pub file-sum : length (file ordinary p) ≡ ftyp-size (y .«color_rext») (y .«gain_rext») (y .shape .tone)
-        + ((12 + (item-boxes-size (y .shape) + property-boxes-size q (y .shape) z (n .dims))) + mdat-bytes)
+    pub file-sum : length (file w p) ≡ ftyp-size (y .«color_rext») (y .«gain_rext») (y .shape .tone)
+        + ((12 + (item-boxes-size w (y .shape) + property-boxes-size w q (y .shape) z (n .dims))) + mdat-bytes)
     file-sum =
-        let x : length (file ordinary p) ≡ y .ftyp + (y .meta + mdat-bytes)
-        = omega (arith, length-file ordinary p even, its-mdat, e .ftyp, length-head p, e .meta, length-meta ordinary (data-at ordinary p) p even) in
+        let x : length (file w p) ≡ y .ftyp + (y .meta + mdat-bytes)
+        = omega (arith, length-file w p even, its-mdat, e .ftyp, length-head p, e .meta, length-meta w (data-at w p) p even) in
         x ∙ (λ i. ftyp-sum i + (meta-sum i + mdat-bytes))

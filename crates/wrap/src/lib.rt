@@ -5,6 +5,7 @@ ghost use lib.ListN.{length};
 ghost use Rattle.octets.specs.Stores.{Wrote};
 ghost use Rattle.panel.specs.Of.{panel-of, part};
 ghost use Rattle.panel.specs.Items.{ordinary};
+ghost use Rattle.panel.specs.Forms.{form-of};
 ghost use Rattle.panel.specs.File.{file};
 ghost use Rattle.panel.specs.Refusal.{refusal};
 ghost use Rattle.panel.specs.Widths.{Fits};
@@ -23,6 +24,7 @@ use layout::Plan;
 use layout::plan_of;
 use offsets::Layout;
 use panel::Answer;
+use panel::FileForm;
 use panel::Panel;
 use panel::Refusal;
 use panel::color::Part;
@@ -79,6 +81,7 @@ fn gain_parts(gain: MaybeGainMap, sample: &[u8], xmp: &[u8], tmap: &[u8]) -> Pay
 // Above 40 lines by its parameters, one to a line: each byte part is a slice of its own.
 fn write_file(
     out: &mut [u8],
+    form: FileForm,
     y: Layout,
     z: Places,
     panel: Panel,
@@ -96,12 +99,12 @@ fn write_file(
     gain_tmap: &[u8],
     alternate_icc: &[u8],
 ) -> usize
-    requires { ⌜ refusal ordinary (panel-of panel (lent (now «color_hvcc») (now «alpha_hvcc») (now «color_lengths») (now «alpha_lengths») (now «color_samples») (now «alpha_samples») (now icc) (now exif) (now «gain_hvcc») (now «gain_sample») (now «gain_xmp») (now «gain_tmap») (now «alternate_icc»))) ≡ 0 ⌝ }
-    requires { ⌜ Laid (panel-of panel (lent (now «color_hvcc») (now «alpha_hvcc») (now «color_lengths») (now «alpha_lengths») (now «color_samples») (now «alpha_samples») (now icc) (now exif) (now «gain_hvcc») (now «gain_sample») (now «gain_xmp») (now «gain_tmap») (now «alternate_icc»))) y ⌝ }
+    requires { ⌜ refusal (form-of form) (panel-of panel (lent (now «color_hvcc») (now «alpha_hvcc») (now «color_lengths») (now «alpha_lengths») (now «color_samples») (now «alpha_samples») (now icc) (now exif) (now «gain_hvcc») (now «gain_sample») (now «gain_xmp») (now «gain_tmap») (now «alternate_icc»))) ≡ 0 ⌝ }
+    requires { ⌜ Laid (form-of form) (panel-of panel (lent (now «color_hvcc») (now «alpha_hvcc») (now «color_lengths») (now «alpha_lengths») (now «color_samples») (now «alpha_samples») (now icc) (now exif) (now «gain_hvcc») (now «gain_sample») (now «gain_xmp») (now «gain_tmap») (now «alternate_icc»))) y ⌝ }
     requires { ⌜ Placed (panel-of panel (lent (now «color_hvcc») (now «alpha_hvcc») (now «color_lengths») (now «alpha_lengths») (now «color_samples») (now «alpha_samples») (now icc) (now exif) (now «gain_hvcc») (now «gain_sample») (now «gain_xmp») (now «gain_tmap») (now «alternate_icc»))) z ⌝ }
     requires { ⌜ Fit z ⌝ }
-    requires { ⌜ length (file ordinary (panel-of panel (lent (now «color_hvcc») (now «alpha_hvcc») (now «color_lengths») (now «alpha_lengths») (now «color_samples») (now «alpha_samples») (now icc) (now exif) (now «gain_hvcc») (now «gain_sample») (now «gain_xmp») (now «gain_tmap») (now «alternate_icc»)))) ≤ length (now out) ⌝ }
-    ensures { λ r. ⌜ Wrote (now (out .entry)) 0 (length (file ordinary (panel-of panel (lent (now («color_hvcc» .entry)) (now («alpha_hvcc» .entry)) (now («color_lengths» .entry)) (now («alpha_lengths» .entry)) (now («color_samples» .entry)) (now («alpha_samples» .entry)) (now (icc .entry)) (now (exif .entry)) (now («gain_hvcc» .entry)) (now («gain_sample» .entry)) (now («gain_xmp» .entry)) (now («gain_tmap» .entry)) (now («alternate_icc» .entry)))))) (file ordinary (panel-of panel (lent (now («color_hvcc» .entry)) (now («alpha_hvcc» .entry)) (now («color_lengths» .entry)) (now («alpha_lengths» .entry)) (now («color_samples» .entry)) (now («alpha_samples» .entry)) (now (icc .entry)) (now (exif .entry)) (now («gain_hvcc» .entry)) (now («gain_sample» .entry)) (now («gain_xmp» .entry)) (now («gain_tmap» .entry)) (now («alternate_icc» .entry))))) (now (out .exit)) r ⌝ }
+    requires { ⌜ length (file (form-of form) (panel-of panel (lent (now «color_hvcc») (now «alpha_hvcc») (now «color_lengths») (now «alpha_lengths») (now «color_samples») (now «alpha_samples») (now icc) (now exif) (now «gain_hvcc») (now «gain_sample») (now «gain_xmp») (now «gain_tmap») (now «alternate_icc»)))) ≤ length (now out) ⌝ }
+    ensures { λ r. ⌜ Wrote (now (out .entry)) 0 (length (file (form-of form) (panel-of panel (lent (now («color_hvcc» .entry)) (now («alpha_hvcc» .entry)) (now («color_lengths» .entry)) (now («alpha_lengths» .entry)) (now («color_samples» .entry)) (now («alpha_samples» .entry)) (now (icc .entry)) (now (exif .entry)) (now («gain_hvcc» .entry)) (now («gain_sample» .entry)) (now («gain_xmp» .entry)) (now («gain_tmap» .entry)) (now («alternate_icc» .entry)))))) (file (form-of form) (panel-of panel (lent (now («color_hvcc» .entry)) (now («alpha_hvcc» .entry)) (now («color_lengths» .entry)) (now («alpha_lengths» .entry)) (now («color_samples» .entry)) (now («alpha_samples» .entry)) (now (icc .entry)) (now (exif .entry)) (now («gain_hvcc» .entry)) (now («gain_sample» .entry)) (now («gain_xmp» .entry)) (now («gain_tmap» .entry)) (now («alternate_icc» .entry))))) (now (out .exit)) r ⌝ }
 {
     let s = y.shape;
     let metadata = panel.metadata;
@@ -114,6 +117,7 @@ fn write_file(
     let b = write_meta(
         out,
         a,
+        form,
         y,
         count,
         z,
@@ -143,9 +147,10 @@ fn write_file(
     )
 }
 
-// The file of a panel in the output, and its length; or why it is refused, and the output as it was.
+// The file of a panel in a form, and its length; or why it is refused, and the output as it was.
 // Above 40 lines by its parameters, one to a line: each byte part is a slice of its own.
-pub fn wrap_hevc_grid_with_alpha(
+pub fn wrap_in_form(
+    form: FileForm,
     panel: Panel,
     color_hvcc: &[u8],
     alpha_hvcc: &[u8],
@@ -162,10 +167,11 @@ pub fn wrap_hevc_grid_with_alpha(
     alternate_icc: &[u8],
     out: &mut [u8],
 ) -> Answer
-    ensures { λ r. ⌜ Promised ordinary (panel-of panel (lent (now («color_hvcc» .entry)) (now («alpha_hvcc» .entry)) (now («color_lengths» .entry)) (now («alpha_lengths» .entry)) (now («color_samples» .entry)) (now («alpha_samples» .entry)) (now (icc .entry)) (now (exif .entry)) (now («gain_hvcc» .entry)) (now («gain_sample» .entry)) (now («gain_xmp» .entry)) (now («gain_tmap» .entry)) (now («alternate_icc» .entry)))) (now (out .entry)) (says r) (now (out .exit)) ⌝ }
+    ensures { λ r. ⌜ Promised (form-of form) (panel-of panel (lent (now («color_hvcc» .entry)) (now («alpha_hvcc» .entry)) (now («color_lengths» .entry)) (now («alpha_lengths» .entry)) (now («color_samples» .entry)) (now («alpha_samples» .entry)) (now (icc .entry)) (now (exif .entry)) (now («gain_hvcc» .entry)) (now («gain_sample» .entry)) (now («gain_xmp» .entry)) (now («gain_tmap» .entry)) (now («alternate_icc» .entry)))) (now (out .entry)) (says r) (now (out .exit)) ⌝ }
     ensures { λ r. ⌜ Fits (panel-of panel (lent (now («color_hvcc» .entry)) (now («alpha_hvcc» .entry)) (now («color_lengths» .entry)) (now («alpha_lengths» .entry)) (now («color_samples» .entry)) (now («alpha_samples» .entry)) (now (icc .entry)) (now (exif .entry)) (now («gain_hvcc» .entry)) (now («gain_sample» .entry)) (now («gain_xmp» .entry)) (now («gain_tmap» .entry)) (now («alternate_icc» .entry)))) ⌝ }
 {
     let plan = plan_of(
+        form,
         panel,
         color_hvcc,
         alpha_hvcc,
@@ -191,6 +197,7 @@ pub fn wrap_hevc_grid_with_alpha(
             let z = file.places;
             write_file(
                 out,
+                form,
                 y,
                 z,
                 panel,
@@ -211,4 +218,46 @@ pub fn wrap_hevc_grid_with_alpha(
             Answer::Length(file.length)
         }
     }
+}
+
+// The ordinary file.
+// Above 40 lines by its parameters, one to a line: each byte part is a slice of its own.
+pub fn wrap_hevc_grid_with_alpha(
+    panel: Panel,
+    color_hvcc: &[u8],
+    alpha_hvcc: &[u8],
+    color_lengths: &[u32],
+    alpha_lengths: &[u32],
+    color_samples: &[u8],
+    alpha_samples: &[u8],
+    icc: &[u8],
+    exif: &[u8],
+    gain_hvcc: &[u8],
+    gain_sample: &[u8],
+    gain_xmp: &[u8],
+    gain_tmap: &[u8],
+    alternate_icc: &[u8],
+    out: &mut [u8],
+) -> Answer
+    ensures { λ r. ⌜ Promised ordinary (panel-of panel (lent (now («color_hvcc» .entry)) (now («alpha_hvcc» .entry)) (now («color_lengths» .entry)) (now («alpha_lengths» .entry)) (now («color_samples» .entry)) (now («alpha_samples» .entry)) (now (icc .entry)) (now (exif .entry)) (now («gain_hvcc» .entry)) (now («gain_sample» .entry)) (now («gain_xmp» .entry)) (now («gain_tmap» .entry)) (now («alternate_icc» .entry)))) (now (out .entry)) (says r) (now (out .exit)) ⌝ }
+    ensures { λ r. ⌜ Fits (panel-of panel (lent (now («color_hvcc» .entry)) (now («alpha_hvcc» .entry)) (now («color_lengths» .entry)) (now («alpha_lengths» .entry)) (now («color_samples» .entry)) (now («alpha_samples» .entry)) (now (icc .entry)) (now (exif .entry)) (now («gain_hvcc» .entry)) (now («gain_sample» .entry)) (now («gain_xmp» .entry)) (now («gain_tmap» .entry)) (now («alternate_icc» .entry)))) ⌝ }
+{
+    wrap_in_form(
+        FileForm::Ordinary,
+        panel,
+        color_hvcc,
+        alpha_hvcc,
+        color_lengths,
+        alpha_lengths,
+        color_samples,
+        alpha_samples,
+        icc,
+        exif,
+        gain_hvcc,
+        gain_sample,
+        gain_xmp,
+        gain_tmap,
+        alternate_icc,
+        out,
+    )
 }

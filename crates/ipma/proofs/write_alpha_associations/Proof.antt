@@ -8,7 +8,7 @@ use Prim.Native.Nat.{ℕ, _+_, _*_}
 use Rattle.octets.specs.Numbers.{_‖_}
 use Rattle.octets.proofs.Lists.{flatMap-append}
 use Rattle.octets.proofs.Stores.{_▹_, kept, told}
-use Rattle.panel.specs.Items.{ordinary}
+use Rattle.panel.specs.Forms.{form-of}
 use Rattle.panel.specs.Ipma.{essential, _with_, each, association}
 use Rattle.boxes.specs.Runs.{places}
 use Rattle.places.specs.Lists.{alpha-grid-list}
@@ -32,9 +32,9 @@ returns c =
     let n = start .args .s .tiles in
     let hvcc = start .args .a .hvcc in
     let tile = start .args .c .«ispe_tile» in
-    let tiles = told (c1 .write-tile-associations .ensures) (λ i. flatMap (association ordinary) (each ((first .alpha-tile-base .ensures) i) n (essential (places hvcc) ‖ append-nil (essential (places tile)) i))) (ap (λ (k : ℕ). (3 + (hvcc .count + k)) * n) (add-zero (tile .count))) in
-    let grid = told (c2 .write-grid-association .ensures) (ap (λ (k : ℕ). flatMap (association ordinary) ((k with alpha-grid-list (start .args .c .«ispe_full») (start .args .a) (start .args .o)) ∷ [])) (id .alpha-grid-id .ensures)) refl in
-    told (tiles ▹ grid) (sym (flatMap-append (association ordinary) _ _)) refl
+    let tiles = told (c1 .write-tile-associations .ensures) (λ i. flatMap (association (form-of (start .args .form))) (each ((first .alpha-tile-base .ensures) i) n (essential (places hvcc) ‖ append-nil (essential (places tile)) i))) (ap (λ (k : ℕ). (form-of (start .args .form) .id + 1 + (hvcc .count + k)) * n) (add-zero (tile .count))) in
+    let grid = told (c2 .write-grid-association .ensures) (ap (λ (k : ℕ). flatMap (association (form-of (start .args .form))) ((k with alpha-grid-list (start .args .c .«ispe_full») (start .args .a) (start .args .o)) ∷ [])) (id .alpha-grid-id .ensures)) refl in
+    told (tiles ▹ grid) (sym (flatMap-append (association (form-of (start .args .form))) _ _)) refl
 
 pub write-alpha-associations-spec : {M : Type 1} → statement M
 write-alpha-associations-spec = tie.close (tie.spec (λ c κs. search needs) (λ c κs. search needs) (λ c κs. search needs) write-grid-association-requires (λ c. search needs) returns)

@@ -2,15 +2,16 @@
 use borrow.Author.Needs.{needs}
 use native.Mathlib.Omega.{arith}
 use mathlib.Core.Path.{refl, sym, ap, _∙_}
-use Rattle.octets.proofs.Stores.{_▹_, kept, told, full-boxed, retold}
+use Rattle.octets.proofs.Stores.{_▹_, kept, told, retold}
 use Rattle.octets.specs.Numbers.{be}
+use Rattle.boxes.proofs.Widths.{raised}
 use Rattle.places.proofs.Entries.{entries-joined}
 use Rattle.length.proofs.Items.{length-associations}
 use Rattle.places.specs.Roles.{its-of}
 use Rattle.places.specs.Counts.{alpha-entries-size}
 use Rattle.places.specs.Lists.{alpha-entries}
 use Rattle.places.specs.declared.pictures.OptionPlaces.{OptionPlaces}
-use Rattle.panel.specs.Items.{ordinary}
+use Rattle.panel.specs.Forms.{form-of}
 use Rattle.panel.specs.Ipma.{association}
 use mathlib.Core.List.{flatMap}
 use Rattle.ipma.proofs.write_ipma.Statement.{statement}
@@ -22,7 +23,7 @@ write-color-associations-requires c κs =
     let c1 = c2 .before .before .before .before in
     let turns = c1 .before .before .before in
     let start = turns .before .before .before .before .before .before .before .before .before in
-    (omega (arith, start .pre .0, (c1 .write-fullbox .ensures) .end, kept (c1 .write-fullbox .ensures), (c2 .w32 .ensures) .end, kept (c2 .w32 .ensures)), (start .pre .1 .0, (start .pre .1 .1 .0 .color, start .pre .1 .1 .0 .options)))
+    (omega (arith, start .pre .0, (c1 .write-item-box .ensures) .end, kept (c1 .write-item-box .ensures), (c2 .w32 .ensures) .end, kept (c2 .w32 .ensures)), (start .pre .1 .0, (start .pre .1 .1 .0 .color, start .pre .1 .1 .0 .options)))
 
 write-alpha-associations-requires : tie.Need-write-alpha-associations-requires
 write-alpha-associations-requires c κs =
@@ -31,7 +32,7 @@ write-alpha-associations-requires c κs =
     let c1 = c2 .before .before .before .before in
     let turns = c1 .before .before .before in
     let start = turns .before .before .before .before .before .before .before .before .before in
-    (omega (arith, start .pre .0, (c1 .write-fullbox .ensures) .end, kept (c1 .write-fullbox .ensures), (c2 .w32 .ensures) .end, kept (c2 .w32 .ensures), (c3 .write-color-associations .ensures) .end, kept (c3 .write-color-associations .ensures), ap (alpha-entries-size (start .args .s) (start .args .y .color) (start .args .y .alpha)) (turns .turns-of .ensures .0)), (start .pre .1 .0, (start .pre .1 .1 .0 .color, (start .pre .1 .1 .0 .alpha, turns .turns-of .ensures .1))))
+    (omega (arith, start .pre .0, (c1 .write-item-box .ensures) .end, kept (c1 .write-item-box .ensures), (c2 .w32 .ensures) .end, kept (c2 .w32 .ensures), (c3 .write-color-associations .ensures) .end, kept (c3 .write-color-associations .ensures), ap (alpha-entries-size (form-of (start .args .form)) (start .args .s) (start .args .y .color) (start .args .y .alpha)) (turns .turns-of .ensures .0)), (start .pre .1 .0, (start .pre .1 .1 .0 .color, (start .pre .1 .1 .0 .alpha, turns .turns-of .ensures .1))))
 
 write-ipma-requires : tie.Need-write-ipma-requires
 write-ipma-requires c κs =
@@ -41,7 +42,7 @@ write-ipma-requires c κs =
     let c1 = c2 .before .before .before .before in
     let turns = c1 .before .before .before in
     let start = turns .before .before .before .before .before .before .before .before .before in
-    (omega (arith, start .pre .0, (c1 .write-fullbox .ensures) .end, kept (c1 .write-fullbox .ensures), (c2 .w32 .ensures) .end, kept (c2 .w32 .ensures), (c3 .write-color-associations .ensures) .end, kept (c3 .write-color-associations .ensures), (c4 .write-alpha-associations .ensures) .end, kept (c4 .write-alpha-associations .ensures), ap (alpha-entries-size (start .args .s) (start .args .y .color) (start .args .y .alpha)) (turns .turns-of .ensures .0)), (start .pre .1 .0, (start .pre .1 .1 .0 .image, (start .pre .1 .1 .0 .tone, (start .pre .1 .1 .0 .options .irot, start .pre .1 .1 .0 .options .imir)))))
+    (omega (arith, start .pre .0, (c1 .write-item-box .ensures) .end, kept (c1 .write-item-box .ensures), (c2 .w32 .ensures) .end, kept (c2 .w32 .ensures), (c3 .write-color-associations .ensures) .end, kept (c3 .write-color-associations .ensures), (c4 .write-alpha-associations .ensures) .end, kept (c4 .write-alpha-associations .ensures), ap (alpha-entries-size (form-of (start .args .form)) (start .args .s) (start .args .y .color) (start .args .y .alpha)) (turns .turns-of .ensures .0)), (start .pre .1 .0, (start .pre .1 .1 .0 .image, (start .pre .1 .1 .0 .tone, (start .pre .1 .1 .0 .options .irot, start .pre .1 .1 .0 .options .imir)))))
 
 returns : tie.Need-returns
 returns c =
@@ -52,8 +53,8 @@ returns c =
     let c1 = c2 .before .before .before .before in
     let turns = c1 .before .before .before in
     let start = turns .before .before .before .before .before .before .before .before .before in
-    let alpha = told (c4 .write-alpha-associations .ensures) (ap (λ (o : OptionPlaces). flatMap (association ordinary) (alpha-entries (start .args .s) (start .args .y .color) (start .args .y .alpha) o)) (turns .turns-of .ensures .0)) (ap (alpha-entries-size (start .args .s) (start .args .y .color) (start .args .y .alpha)) (turns .turns-of .ensures .0)) in
-    retold (full-boxed "ipma" 0 0 (c1 .write-fullbox .ensures) (told (c2 .w32 .ensures) (ap (be 4) (start .pre .1 .1 .1 .1 ∙ sym (length-associations (start .args .s) (its-of (start .args .y))))) refl ▹ told ((c3 .write-color-associations .ensures) ▹ alpha ▹ (c5 .write-ipma .ensures)) (entries-joined (start .args .s) (start .args .y)) refl) (omega (arith, start .pre .1 .1 .1 .0))) refl (omega arith)
+    let alpha = told (c4 .write-alpha-associations .ensures) (ap (λ (o : OptionPlaces). flatMap (association (form-of (start .args .form))) (alpha-entries (start .args .s) (start .args .y .color) (start .args .y .alpha) o)) (turns .turns-of .ensures .0)) (ap (alpha-entries-size (form-of (start .args .form)) (start .args .s) (start .args .y .color) (start .args .y .alpha)) (turns .turns-of .ensures .0)) in
+    retold (raised "ipma" _ 0 (c1 .write-item-box .ensures) (told (c2 .w32 .ensures) (ap (be 4) (start .pre .1 .1 .1 .1 ∙ sym (length-associations (start .args .s) (its-of (start .args .y))))) refl ▹ told ((c3 .write-color-associations .ensures) ▹ alpha ▹ (c5 .write-ipma .ensures)) (entries-joined (form-of (start .args .form)) (start .args .s) (start .args .y)) refl) (omega (arith, start .pre .1 .1 .1 .0))) refl (omega arith)
 
 pub write-ipma-spec : {M : Type 1} → statement M
 write-ipma-spec = tie.close (tie.spec (λ c κs. search needs) (λ c κs. search needs) (λ c κs. search needs) write-color-associations-requires write-alpha-associations-requires write-ipma-requires (λ c. search needs) returns)

@@ -3,7 +3,8 @@ use borrow.Author.Needs.{needs}
 use mathlib.Core.Path.{refl}
 use Rattle.octets.proofs.Stores.{retold}
 use mathlib.Core.List.{[], _∷_}
-use Rattle.panel.specs.Items.{ordinary, ids-from}
+use Rattle.panel.specs.Items.{ids-from}
+use Rattle.panel.specs.Forms.{form-of}
 use Rattle.panel.specs.Iref.{reference}
 use Rattle.items.proofs.write_alpha_dimg.Statement.{statement}
 use Rattle.items.proofs.write_alpha_dimg.Tie as tie
@@ -14,7 +15,7 @@ returns c =
     let c2 = c3 .before .before in
     let c1 = c2 .before in
     let start = c1 .before .before in
-    retold (c3 .write-dimg-tiles .ensures) (λ i. reference ordinary "dimg" ((c1 .alpha-grid-id .ensures) i) (ids-from ((c2 .alpha-tile-base .ensures) i) (start .args .s .tiles)) ∷ []) refl
+    retold (c3 .write-dimg-tiles .ensures) (λ i. reference (form-of (start .args .form)) "dimg" ((c1 .alpha-grid-id .ensures) i) (ids-from ((c2 .alpha-tile-base .ensures) i) (start .args .s .tiles)) ∷ []) refl
 
 pub write-alpha-dimg-spec : {M : Type 1} → statement M
 write-alpha-dimg-spec = tie.close (tie.spec (λ c κs. search needs) (λ c κs. search needs) (λ c κs. search needs) (λ c. search needs) returns)

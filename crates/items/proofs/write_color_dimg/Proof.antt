@@ -4,7 +4,8 @@ use mathlib.Core.Path.{refl, ap}
 use Rattle.octets.proofs.Stores.{retold}
 use Prim.Native.Nat.{ℕ}
 use mathlib.Core.List.{[], _∷_}
-use Rattle.panel.specs.Items.{ordinary, ids-from}
+use Rattle.panel.specs.Items.{ids-from}
+use Rattle.panel.specs.Forms.{form-of}
 use Rattle.panel.specs.Iref.{reference}
 use Rattle.items.proofs.write_color_dimg.Statement.{statement}
 use Rattle.items.proofs.write_color_dimg.Tie as tie
@@ -14,7 +15,7 @@ returns c =
     let c2 = c .before .before in
     let c1 = c2 .before .before in
     let start = c1 .before .before in
-    retold (c2 .write-dimg-tiles .ensures) (ap (λ (k : ℕ). reference ordinary "dimg" k (ids-from 1 (start .args .s .tiles)) ∷ []) (c1 .color-grid-id .ensures)) refl
+    retold (c2 .write-dimg-tiles .ensures) (ap (λ (k : ℕ). reference (form-of (start .args .form)) "dimg" k (ids-from 1 (start .args .s .tiles)) ∷ []) (c1 .color-grid-id .ensures)) refl
 
 pub write-color-dimg-spec : {M : Type 1} → statement M
 write-color-dimg-spec = tie.close (tie.spec (λ c κs. search needs) (λ c κs. search needs) (λ c. search needs) returns)

@@ -1,10 +1,11 @@
 -- The tiles' entries and the grid's.
 use borrow.Author.Needs.{needs}
+use native.Mathlib.Omega.{arith}
 use mathlib.Core.Path.{refl, ap}
 use Rattle.octets.proofs.Stores.{retold, _▸_}
 use Prim.Native.Nat.{ℕ}
 use mathlib.Core.List.{[], _∷_}
-use Rattle.panel.specs.Items.{ordinary}
+use Rattle.panel.specs.Forms.{form-of}
 use Rattle.panel.specs.Iinf.{infe}
 use Rattle.items.proofs.write_color_infes.Statement.{statement}
 use Rattle.items.proofs.write_color_infes.Tie as tie
@@ -14,7 +15,8 @@ returns c =
     let c3 = c .before .before in
     let c2 = c3 .before .before .before .before .before .before in
     let c1 = c2 .before .before in
-    (c2 .write-tile-infes .ensures) ▸ retold (c3 .write-infe .ensures) (ap (λ (k : ℕ). infe ordinary 0 k "grid" [] ∷ []) (c1 .color-grid-id .ensures)) refl
+    let start = c1 .before .before in
+    (c2 .write-tile-infes .ensures) ▸ retold (c3 .write-infe .ensures) (ap (λ (k : ℕ). infe (form-of (start .args .form)) 0 k "grid" [] ∷ []) (c1 .color-grid-id .ensures)) (omega arith)
 
 pub write-color-infes-spec : {M : Type 1} → statement M
 write-color-infes-spec = tie.close (tie.spec (λ c κs. search needs) (λ c κs. search needs) (λ c. search needs) (λ c κs. search needs) (λ c. search needs) returns)

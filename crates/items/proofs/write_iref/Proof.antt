@@ -2,14 +2,45 @@
 use borrow.Author.Needs.{needs}
 use native.Mathlib.Omega.{arith}
 use mathlib.Core.Path.{_≡_, refl, sym, _∙_}
-use Rattle.octets.proofs.Stores.{full-boxed, retold, _▸_}
 use mathlib.Core.Bool.{cond}
 use Prim.Native.Nat.{_+_, _*_}
-use Rattle.panel.specs.Items.{ordinary}
 use Rattle.octets.proofs.Lists.{cond-mul}
-use Rattle.length.specs.Size.{iref-size}
+use Rattle.octets.proofs.Stores.{kept, retold, _▸_}
+use Rattle.panel.specs.Items.{Form}
+use Rattle.panel.specs.Forms.{form-of}
+use Rattle.panel.specs.declared.Shape.{Shape}
+use Rattle.length.specs.Size.{reference-size, iref-size}
+use Rattle.boxes.proofs.Widths.{raised}
 use Rattle.items.proofs.write_iref.Statement.{statement}
 use Rattle.items.proofs.write_iref.Tie as tie
+
+size-of : (f : Form) (s : Shape)
+    → 12 + ((10 + f .id + f .id * s .tiles) + ((10 + f .id + f .id * s .tiles) + ((10 + 2 * f .id) + (cond (s .exif) (10 + 2 * f .id) 0 + (cond (s .gain) (20 + 4 * f .id) 0 + cond (s .tone) (10 + 3 * f .id) 0))))) ≡ 8 + iref-size f s
+size-of f s =
+    omega (
+      arith,
+      cond-mul (s .exif) (10 + 2 * f .id),
+      cond-mul (s .exif) (reference-size f 1),
+      cond-mul (s .gain) (20 + 4 * f .id),
+      cond-mul (s .gain) (2 * reference-size f 1),
+      cond-mul (s .tone) (10 + 3 * f .id),
+      cond-mul (s .tone) (reference-size f 2),
+    )
+
+write-iref-requires : tie.Need-write-iref-requires
+write-iref-requires c κs =
+    let c5 = c .before .before .before in
+    let c4 = c5 .before .before .before .before in
+    let c3 = c4 .before .before .before .before in
+    let c2 = c3 .before .before .before .before in
+    let c1 = c2 .before .before .before .before in
+    let start = c1 .before .before .before .before in
+    let w1 = c1 .write-item-box .ensures in
+    let w2 = (c2 .write-color-dimg .ensures) .wrote in
+    let w3 = (c3 .write-alpha-dimg .ensures) .wrote in
+    let w4 = (c4 .write-alpha-auxl .ensures) .wrote in
+    let w5 = (c5 .write-exif-ref .ensures) .wrote in
+    (omega (arith, start .pre .0, size-of (form-of (start .args .form)) (start .args .s), w1 .end, kept w1, w2 .end, kept w2, w3 .end, kept w3, w4 .end, kept w4, w5 .end, kept w5), start .pre .1 .0)
 
 returns : tie.Need-returns
 returns c =
@@ -20,8 +51,9 @@ returns c =
     let c2 = c3 .before .before .before .before in
     let c1 = c2 .before .before .before .before in
     let start = c1 .before .before .before .before in
-    let size : 12 + ((12 + 2 * start .args .s .tiles) + ((12 + 2 * start .args .s .tiles) + (14 + (cond (start .args .s .exif) 14 0 + (cond (start .args .s .gain) 28 0 + cond (start .args .s .tone) 16 0))))) ≡ 8 + iref-size ordinary (start .args .s) = omega (arith, cond-mul (start .args .s .exif) 14, cond-mul (start .args .s .gain) 28, cond-mul (start .args .s .tone) 16) in
-    retold (full-boxed "iref" 0 0 (c1 .write-fullbox .ensures) (((c2 .write-color-dimg .ensures) ▸ (c3 .write-alpha-dimg .ensures) ▸ (c4 .write-alpha-auxl .ensures) ▸ (c5 .write-exif-ref .ensures) ▸ (c6 .write-iref .ensures)) .wrote) (start .pre .1 .1 ∙ sym size)) refl size
+    let size = size-of (form-of (start .args .form)) (start .args .s) in
+    let body = (c2 .write-color-dimg .ensures) ▸ (c3 .write-alpha-dimg .ensures) ▸ (c4 .write-alpha-auxl .ensures) ▸ (c5 .write-exif-ref .ensures) ▸ (c6 .write-iref .ensures) in
+    retold (raised "iref" _ 0 (c1 .write-item-box .ensures) (body .wrote) (start .pre .1 .1 ∙ sym size)) refl size
 
 pub write-iref-spec : {M : Type 1} → statement M
-write-iref-spec = tie.close (tie.spec (λ c κs. search needs) (λ c κs. search needs) (λ c κs. search needs) (λ c κs. search needs) (λ c κs. search needs) (λ c κs. search needs) (λ c. search needs) returns)
+write-iref-spec = tie.close (tie.spec (λ c κs. search needs) (λ c κs. search needs) (λ c κs. search needs) (λ c κs. search needs) (λ c κs. search needs) write-iref-requires (λ c. search needs) returns)

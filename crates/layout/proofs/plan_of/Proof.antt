@@ -50,7 +50,7 @@ returns-2 c =
     let h = rw (k .first2 .given .1) at ((y .first-checks .ensures) l refl refl refl refl) in
     let there = (c11 .places-of .ensures) .0 l (h .items) in
     let sized = (c12 .sizes-of .ensures) .0 l ((c8 .lengths-of .ensures) l refl refl refl refl refl refl (c7 .gain-lengths .ensures)) (h .items) there (c9 .hvcc-uses-rext .ensures) ((c10 .gain-uses-rext .ensures) l refl) in
-    (stop-5 _ l h ((c13 .file-size .ensures) _ sized) (c .if1 .taken), (fits .numbers-fit .ensures) .1 l)
+    (stop-5 _ _ l h ((c13 .file-size .ensures) _ _ sized) (c .if1 .taken), (fits .numbers-fit .ensures) .1 l)
 
 placed-requires : tie.Need-placed-requires
 unfolding lent
@@ -71,8 +71,8 @@ placed-requires c κs =
     let h = rw (k .first2 .given .1) at ((y .first-checks .ensures) l refl refl refl refl) in
     let there = (c11 .places-of .ensures) .0 l (h .items) in
     let sized = (c12 .sizes-of .ensures) .0 l ((c8 .lengths-of .ensures) l refl refl refl refl refl refl (c7 .gain-lengths .ensures)) (h .items) there (c9 .hvcc-uses-rext .ensures) ((c10 .gain-uses-rext .ensures) l refl) in
-    let done = accepted _ l h ((c13 .file-size .ensures) _ sized) (c14 .before .if1 .left) in
-    room _ l _ (done .0) sized
+    let done = accepted _ _ l h ((c13 .file-size .ensures) _ _ sized) (c14 .before .if1 .left) in
+    room _ _ l _ (done .0) sized
 
 returns-3 : tie.Need-returns-3
 unfolding lent
@@ -94,8 +94,8 @@ returns-3 c =
     let h = rw (k .first2 .given .1) at ((y .first-checks .ensures) l refl refl refl refl) in
     let there = (c11 .places-of .ensures) .0 l (h .items) in
     let sized = (c12 .sizes-of .ensures) .0 l ((c8 .lengths-of .ensures) l refl refl refl refl refl refl (c7 .gain-lengths .ensures)) (h .items) there (c9 .hvcc-uses-rext .ensures) ((c10 .gain-uses-rext .ensures) l refl) in
-    let done = accepted _ l h ((c13 .file-size .ensures) _ sized) (c14 .before .if1 .left) in
-    let laid = (c15 .placed .ensures) _ (given _ l (done .0) sized (h .items) (c14 .descriptor-length .ensures) (c9 .hvcc-uses-rext .ensures) ((c10 .gain-uses-rext .ensures) l refl)) in
+    let done = accepted _ _ l h ((c13 .file-size .ensures) _ _ sized) (c14 .before .if1 .left) in
+    let laid = (c15 .placed .ensures) _ _ (given _ _ l (done .0) sized (h .items) (c14 .descriptor-length .ensures) (c9 .hvcc-uses-rext .ensures) ((c10 .gain-uses-rext .ensures) l refl)) in
     (record { accepted = done .0; long = done .1; laid = laid; placed = there; fit = (c11 .places-of .ensures) .1 }, (fits .numbers-fit .ensures) .1 l)
 
 pub plan-of-spec : {M : Type 1} → statement M

@@ -1,18 +1,29 @@
--- Six numbers.
+-- By the form: in the ordinary one, an id of two bytes that do not see what lies above them.
 use borrow.Author.Needs.{needs}
-use Rattle.octets.proofs.Stores.{_▹_}
+use native.Mathlib.Omega.{arith}
+use mathlib.Core.Path.{refl, ap}
+use mathlib.Core.List.{List}
+use Prim.Native.Nat.{ℕ}
+use Rattle.octets.specs.Numbers.{_‖_, be}
+use Rattle.octets.proofs.Stores.{told}
+use Rattle.panel.specs.Items.{Form}
+use Rattle.panel.proofs.Forms.{only-ordinary}
+use Rattle.boxes.proofs.Widths.{narrowed}
 use Rattle.locations.proofs.write_location.Statement.{statement}
 use Rattle.locations.proofs.write_location.Tie as tie
 
+write-ordinary-location-requires : tie.Need-write-ordinary-location-requires
+write-ordinary-location-requires c κs =
+    let start = c .before .before .before in
+    omega (arith, ap (λ (f : Form). f .id) (only-ordinary (start .args .form)))
+
 returns : tie.Need-returns
 returns c =
-    let c6 = c .before .before in
-    let c5 = c6 .before .before .before .before in
-    let c4 = c5 .before .before .before .before in
-    let c3 = c4 .before .before .before .before in
-    let c2 = c3 .before .before .before .before in
-    let c1 = c2 .before .before .before .before in
-    (c1 .write-id .ensures) ▹ (c2 .w16 .ensures) ▹ (c3 .w162 .ensures) ▹ (c4 .w163 .ensures) ▹ (c5 .w32 .ensures) ▹ (c6 .w322 .ensures)
+    let c2 = c .before .before in
+    let c1 = c2 .before in
+    let start = c1 .before .before .before in
+    let id = narrowed (start .args .id .0) (c1 .ordinary-id .ensures) in
+    rw (only-ordinary (start .args .form)) (told (c2 .write-ordinary-location .ensures) (ap (λ (x : List ℕ). x ‖ be 2 (start .args .method) ‖ be 2 0 ‖ be 2 1 ‖ be 4 (start .args .offset) ‖ be 4 (start .args .size)) id) refl)
 
 pub write-location-spec : {M : Type 1} → statement M
-write-location-spec = tie.close (tie.spec (λ c κs. search needs) (λ c κs. search needs) (λ c κs. search needs) (λ c κs. search needs) (λ c κs. search needs) (λ c κs. search needs) (λ c. search needs) returns)
+write-location-spec = tie.close (tie.spec (λ c κs. search needs) write-ordinary-location-requires (λ c. search needs) returns)

@@ -8,8 +8,8 @@ use Rattle.offsets.proofs.placed.Tie as tie
 returns : tie.Need-returns
 returns c =
     let start = c .before .before .before .before .before .before in
-    λ p g.
-    let x = as-lengths p (start .args .z) (g .even) (g .sized) (start .pre .file) in
+    λ f p g.
+    let x = as-lengths f p (start .args .z) (g .even) (g .sized) (start .pre .file) in
     record {
       items = g .items;
       grid = g .grid;

@@ -1,13 +1,13 @@
 -- Box by box.
 use borrow.Author.Needs.{needs}
 use native.Mathlib.Omega.{arith}
-use mathlib.Core.Path.{sym, ap, _∙_}
+use mathlib.Core.Path.{_≡_, sym, ap, _∙_}
 use mathlib.Core.Bool.{cond}
 use Prim.Native.Nat.{ℕ, _+_}
 use Rattle.sizes.proofs.Caps.{iprp-capped, meta-capped}
 use Rattle.panel.specs.Of.{panel-of}
 use Rattle.length.specs.Size.{iloc-size, iinf-size, iref-size, ftyp-size}
-use Rattle.panel.specs.Items.{ordinary}
+use Rattle.panel.specs.Forms.{form-of}
 use Rattle.panel.specs.declared.Shape.{Shape}
 use Rattle.places.specs.Counts.{ipma-bytes}
 use Rattle.places.proofs.Sizes.{ipma-by-runs}
@@ -17,7 +17,8 @@ use Rattle.sizes.proofs.sizes_of.Tie as tie
 returns : tie.Need-returns
 unfolding panel-of
 returns c =
-    let c9 = c in
+    let c10 = c in
+    let c9 = c10 .before in
     let c8 = c9 .before in
     let c7 = c8 .before in
     let c6 = c7 .before in
@@ -29,14 +30,17 @@ returns c =
     let start = c1 .before .before in (
       λ l m e f c g.
           let z = start .args .z in
-          let ipma = (c4 .ipma-bytes .ensures) .0 ∙ ap (λ (s : Shape). ipma-bytes s z) e ∙ sym (ipma-by-runs (panel-of (start .args .panel) l) z f) in
-          let iloc = (c1 .iloc-size .ensures) ∙ ap (λ (s : Shape). 8 + iloc-size ordinary s) e in
-          let iinf = (c2 .iinf-size .ensures) ∙ ap (λ (s : Shape). 8 + iinf-size ordinary s) e in
-          let iref = (c3 .iref-size .ensures) ∙ ap (λ (s : Shape). 8 + iref-size ordinary s) e in
-          let grpl = (c7 .when .ensures) .0 ∙ ap (λ (s : Shape). cond {A = ℕ} (s .tone) 36 0) e in
-          let iprp = iprp-capped (panel-of (start .args .panel) l) ((c6 .ipco-size .ensures) .0 l m) ipma in
+          let w = form-of (start .args .form) in
+          let p = panel-of (start .args .panel) l in
+          let id : c7 .ids-bytes .result ≡ w .id = omega (arith, c7 .ids-bytes .ensures .0) in
+          let ipma = (c4 .ipma-bytes .ensures) .0 ∙ ap (λ (s : Shape). ipma-bytes w s z) e ∙ sym (ipma-by-runs w p z f) in
+          let iloc = (c1 .iloc-size .ensures) ∙ ap (λ (s : Shape). 8 + iloc-size w s) e in
+          let iinf = (c2 .iinf-size .ensures) ∙ ap (λ (s : Shape). 8 + iinf-size w s) e in
+          let iref = (c3 .iref-size .ensures) ∙ ap (λ (s : Shape). 8 + iref-size w s) e in
+          let grpl = (c8 .when .ensures) .0 ∙ ap (λ (s : Shape). cond {A = ℕ} (s .tone) 36 0) e in
+          let iprp = iprp-capped w p ((c6 .ipco-size .ensures) .0 l m) ipma in
           record {
-            ftyp = (c8 .ftyp-size .ensures) ∙ (λ i. 8 + ftyp-size (c i) (g i) (e i .tone));
+            ftyp = (c9 .ftyp-size .ensures) ∙ (λ i. 8 + ftyp-size (c i) (g i) (e i .tone));
             iloc = iloc;
             iinf = iinf;
             iref = iref;
@@ -44,11 +48,11 @@ returns c =
             idat = (c5 .idat-size .ensures);
             ipco = (c6 .ipco-size .ensures) .0 l m;
             iprp = iprp;
-            meta = meta-capped (panel-of (start .args .panel) l) iloc iinf iref iprp grpl (c5 .idat-size .ensures);
-            mdat = (c9 .mdat-size .ensures) .0 l m;
+            meta = meta-capped w p iloc iinf iref iprp grpl (c5 .idat-size .ensures) id;
+            mdat = (c10 .mdat-size .ensures) .0 l m;
           },
-      record { meta = omega (arith, (c6 .ipco-size .ensures) .1, (c7 .when .ensures) .1, (c4 .ipma-bytes .ensures) .1); mdat = omega (arith, (c9 .mdat-size .ensures) .1) },
+      record { meta = omega (arith, (c6 .ipco-size .ensures) .1, (c8 .when .ensures) .1, (c4 .ipma-bytes .ensures) .1, (c7 .ids-bytes .ensures) .1); mdat = omega (arith, (c10 .mdat-size .ensures) .1) },
     )
 
 pub sizes-of-spec : {M : Type 1} → statement M
-sizes-of-spec = tie.close (tie.spec (λ c κs. search needs) (λ c κs. search needs) (λ c κs. search needs) (λ c κs. search needs) (λ c κs. search needs) (λ c κs. search needs) (λ c. search needs) (λ c. search needs) (λ c. search needs) (λ c. search needs) (λ c. search needs) (λ c. search needs) (λ c. search needs) (λ c. search needs) (λ c. search needs) (λ c. search needs) (λ c κs. search needs) (λ c. search needs) (λ c. search needs) (λ c. search needs) (λ c. search needs) (λ c κs. search needs) (λ c κs. search needs) returns)
+sizes-of-spec = tie.close (tie.spec (λ c κs. search needs) (λ c κs. search needs) (λ c κs. search needs) (λ c κs. search needs) (λ c κs. search needs) (λ c κs. search needs) (λ c. search needs) (λ c. search needs) (λ c. search needs) (λ c κs. search needs) (λ c. search needs) (λ c. search needs) (λ c. search needs) (λ c. search needs) (λ c. search needs) (λ c. search needs) (λ c. search needs) (λ c. search needs) (λ c. search needs) (λ c κs. search needs) (λ c. search needs) (λ c. search needs) (λ c. search needs) (λ c. search needs) (λ c κs. search needs) (λ c κs. search needs) returns)

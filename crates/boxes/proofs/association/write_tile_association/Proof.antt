@@ -2,6 +2,7 @@
 use borrow.Author.Needs.{needs}
 use mathlib.Core.Path.{refl}
 use Rattle.octets.proofs.Stores.{_▹_, told}
+use Rattle.panel.specs.Forms.{form-of}
 use Rattle.boxes.proofs.Marks.{three-associated}
 use Rattle.boxes.proofs.association.write_tile_association.Statement.{statement}
 use Rattle.boxes.proofs.association.write_tile_association.Tie as tie
@@ -11,7 +12,7 @@ returns c =
     let c2 = c .before .before in
     let c1 = c2 .before .before .before .before in
     let start = c1 .before .before .before .before .before .before in
-    told ((c1 .write-association-head .ensures) ▹ (c2 .write-runs .ensures)) (three-associated (start .args .id .0) (start .args .one) (start .args .two) (start .args .three)) refl
+    told ((c1 .write-association-head .ensures) ▹ (c2 .write-runs .ensures)) (three-associated (form-of (start .args .form)) (start .args .id .0) (start .args .one) (start .args .two) (start .args .three)) refl
 
 pub write-tile-association-spec : {M : Type 1} → statement M
 write-tile-association-spec = tie.close (tie.spec (λ c. search needs) (λ c. search needs) (λ c κs. search needs) (λ c κs. search needs) (λ c. search needs) returns)

@@ -2,12 +2,13 @@
 use native.Mathlib.Omega.{arith}
 use mathlib.Core.Path.{refl, sym}
 use Rattle.octets.proofs.Stores.{told}
-use Rattle.boxes.proofs.Loops.{Turn, begun, turned, ended, mul-step}
+use Rattle.boxes.proofs.Loops.{Turn, begun, room, turned, ended}
 use Rattle.octets.specs.Numbers.{_‖_}
 use Prim.Native.Nat.{ℕ, _+_}
 use mathlib.Core.List.{List}
 use Rattle.octets.proofs.Lists.{flatMap-map}
-use Rattle.panel.specs.Items.{ordinary, ids-from}
+use Rattle.panel.specs.Items.{Form, ids-from}
+use Rattle.panel.specs.Forms.{form-of}
 use Rattle.panel.specs.Ipma.{essential, _with_, association}
 use Rattle.boxes.specs.Runs.{places}
 use Rattle.boxes.specs.declared.association.Run.{Run}
@@ -15,14 +16,14 @@ use Rattle.boxes.proofs.association.write_tile_associations.Statement.{
 use Rattle.boxes.proofs.association.write_tile_associations.Tie as tie
 
 -- the bytes of a tile's entry
-abbrev print : Run → Run → Run → ℕ → List ℕ
-print a b c id = association ordinary (id with essential (places a) ‖ essential (places b) ‖ essential (places c))
+abbrev print : Form → Run → Run → Run → ℕ → List ℕ
+print f a b c id = association f (id with essential (places a) ‖ essential (places b) ‖ essential (places c))
 
 abbrev Inv-loop : tie.InvT-loop
-Inv-loop out₀ at n one two three left₀ a₀ id₀ out left a id = Turn (print one two three) (3 + (one .count + (two .count + three .count))) out₀ at n id₀ out left a id
+Inv-loop out₀ at form n one two three left₀ a₀ id₀ out left a id = Turn (print (form-of form) one two three) (form-of form .id + 1 + (one .count + (two .count + three .count))) out₀ at n id₀ out left a id
 
 abbrev μ-loop : tie.MeasureT-loop
-μ-loop out₀ at n one two three left₀ a₀ id₀ out left a id = left
+μ-loop out₀ at form n one two three left₀ a₀ id₀ out left a id = left
 
 loop-holds : tie.Need-loop-holds Inv-loop μ-loop
 loop-holds c = begun
@@ -30,7 +31,7 @@ loop-holds c = begun
 write-tile-association-requires : tie.Need-write-tile-association-requires Inv-loop μ-loop
 write-tile-association-requires c κs =
     let start = c .before .before .before .before in
-    (omega (arith, c .before .before .loop .inv .place, c .before .before .loop .inv .len, start .pre .0, mul-step (3 + (start .args .one .count + (start .args .two .count + start .args .three .count))) (c .before .before .loop .left) (c .before .loop-test .taken)), start .pre .1 .1)
+    (room (c .before .before .loop .inv) (c .before .loop-test .taken) (start .pre .0), start .pre .1 .1)
 
 loop-again : tie.Need-loop-again Inv-loop μ-loop
 loop-again c =
@@ -44,7 +45,7 @@ same-length c =
 returns : tie.Need-returns Inv-loop μ-loop
 returns c =
     let start = c .before .before .before in
-    told (ended (c .before .loop .inv) (omega arith)) (sym (flatMap-map (association ordinary) (λ id. id with essential (places (start .args .one)) ‖ essential (places (start .args .two)) ‖ essential (places (start .args .three))) (ids-from (start .args .first .0) (start .args .n)))) refl
+    told (ended (c .before .loop .inv) (omega arith)) (sym (flatMap-map (association (form-of (start .args .form))) (λ id. id with essential (places (start .args .one)) ‖ essential (places (start .args .two)) ‖ essential (places (start .args .three))) (ids-from (start .args .first .0) (start .args .n)))) refl
 
 pub write-tile-associations-spec : {M : Type 1} → statement M
 write-tile-associations-spec = tie.close (tie.spec Inv-loop μ-loop loop-holds write-tile-association-requires (λ c. omega arith) (λ c. omega arith) (λ c. omega arith) loop-again same-length returns)

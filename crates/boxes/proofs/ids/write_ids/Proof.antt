@@ -1,18 +1,24 @@
 -- Each turn writes one id more.
 use native.Mathlib.Omega.{arith}
-use Rattle.boxes.proofs.Loops.{Turn, begun, turned, ended}
+use Rattle.boxes.proofs.Loops.{Turn, begun, room, turned, ended}
 use Rattle.octets.specs.Numbers.{be}
+use Rattle.panel.specs.Forms.{form-of}
 use Rattle.boxes.proofs.ids.write_ids.Statement.{statement}
 use Rattle.boxes.proofs.ids.write_ids.Tie as tie
 
 abbrev Inv-loop : tie.InvT-loop
-Inv-loop out₀ at n left₀ a₀ id₀ out left a id = Turn (be 2) 2 out₀ at n id₀ out left a id
+Inv-loop out₀ at form n left₀ a₀ id₀ out left a id = Turn (be (form-of form .id)) (form-of form .id) out₀ at n id₀ out left a id
 
 abbrev μ-loop : tie.MeasureT-loop
-μ-loop out₀ at n left₀ a₀ id₀ out left a id = left
+μ-loop out₀ at form n left₀ a₀ id₀ out left a id = left
 
 loop-holds : tie.Need-loop-holds Inv-loop μ-loop
 loop-holds c = begun
+
+write-id-requires : tie.Need-write-id-requires Inv-loop μ-loop
+write-id-requires c κs =
+    let i = c .before in
+    room (i .before .loop .inv) (i .loop-test .taken) (i .before .before .before .pre .0)
 
 loop-again : tie.Need-loop-again Inv-loop μ-loop
 loop-again c =
@@ -28,4 +34,4 @@ returns c =
     ended (c .before .loop .inv) (omega arith)
 
 pub write-ids-spec : {M : Type 1} → statement M
-write-ids-spec = tie.close (tie.spec Inv-loop μ-loop loop-holds (λ c κs. omega arith) (λ c. omega arith) (λ c. omega arith) (λ c. omega arith) loop-again same-length returns)
+write-ids-spec = tie.close (tie.spec Inv-loop μ-loop loop-holds write-id-requires (λ c. omega arith) (λ c. omega arith) (λ c. omega arith) loop-again same-length returns)

@@ -6,6 +6,7 @@ use mathlib.Core.Bool.{Bool, cond}
 use Prim.Native.Nat.{ℕ, _+_}
 use lib.ListN.{length}
 use Rattle.octets.proofs.Stores.{no-boxes}
+use Rattle.panel.specs.Forms.{form-of}
 use Rattle.boxes.proofs.infe.write_given_infe.Statement.{statement}
 use Rattle.boxes.proofs.infe.write_given_infe.Tie as tie
 
@@ -13,7 +14,7 @@ write-infe-requires : tie.Need-write-infe-requires
 write-infe-requires c κs =
     let i = c .before in
     let start = i .before .before .before in
-    (omega (arith, start .pre .0, ap (λ (b : Bool). cond {A = ℕ} b (21 + length (start .args .content-type .now)) 0) (i .if1 .taken)), start .pre .1)
+    (omega (arith, start .pre .0, ap (λ (b : Bool). cond {A = ℕ} b (19 + form-of (start .args .form) .id + length (start .args .content-type .now)) 0) (i .if1 .taken)), start .pre .1)
 
 returns : tie.Need-returns
 returns c =

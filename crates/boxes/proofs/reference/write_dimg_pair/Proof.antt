@@ -1,7 +1,11 @@
 -- The head, the item, a count of two, the others.
 use borrow.Author.Needs.{needs}
-use mathlib.Core.Path.{refl}
-use Rattle.octets.proofs.Stores.{_▹_, boxed}
+use native.Mathlib.Omega.{arith}
+use mathlib.Core.Path.{refl, sym}
+use Rattle.octets.proofs.Stores.{_▹_, told, boxed, retold}
+use Rattle.octets.specs.Numbers.{be}
+use Rattle.octets.proofs.Lists.{flatMap-one}
+use Rattle.panel.specs.Forms.{form-of}
 use mathlib.Core.List.{flatMap}
 use Rattle.boxes.proofs.reference.write_dimg_pair.Statement.{statement}
 use Rattle.boxes.proofs.reference.write_dimg_pair.Tie as tie
@@ -9,12 +13,14 @@ use Rattle.boxes.proofs.reference.write_dimg_pair.Tie as tie
 returns : tie.Need-returns
 unfolding flatMap
 returns c =
-    let c5 = c .before .before in
+    let c6 = c .before .before in
+    let c5 = c6 .before .before .before .before in
     let c4 = c5 .before .before .before .before in
     let c3 = c4 .before .before .before .before in
     let c2 = c3 .before .before .before .before in
-    let c1 = c2 .before .before .before .before in
-    boxed "dimg" (c1 .write-box .ensures) ((c2 .write-id .ensures) ▹ (c3 .w16 .ensures) ▹ (c4 .write-id2 .ensures) ▹ (c5 .write-id3 .ensures)) refl
+    let start = c2 .before .before .before .before .before in
+    let size = c2 .before .before .ids-bytes .ensures .0 in
+    retold (boxed "dimg" (c2 .write-box .ensures) ((c3 .write-id .ensures) ▹ (c4 .w16 .ensures) ▹ (c5 .write-id2 .ensures) ▹ told (c6 .write-id3 .ensures) (sym (flatMap-one (be (form-of (start .args .form) .id)) (start .args .two .0))) refl) (omega (arith, size))) refl (omega arith)
 
 pub write-dimg-pair-spec : {M : Type 1} → statement M
-write-dimg-pair-spec = tie.close (tie.spec (λ c κs. search needs) (λ c κs. search needs) (λ c κs. search needs) (λ c κs. search needs) (λ c κs. search needs) (λ c. search needs) returns)
+write-dimg-pair-spec = tie.close (tie.spec (λ c κs. search needs) (λ c. search needs) (λ c κs. search needs) (λ c κs. search needs) (λ c κs. search needs) (λ c κs. search needs) (λ c κs. search needs) (λ c. search needs) returns)

@@ -10,12 +10,14 @@ use Rattle.boxes.proofs.reference.write_dimg_tiles.Tie as tie
 
 returns : tie.Need-returns
 returns c =
-    let c4 = c .before .before in
+    let c5 = c .before .before in
+    let c4 = c5 .before .before .before .before in
     let c3 = c4 .before .before .before .before in
     let c2 = c3 .before .before .before .before in
-    let c1 = c2 .before .before .before .before in
-    let start = c1 .before .before .before .before in
-    retold (boxed "dimg" (c1 .write-box .ensures) ((c2 .write-id .ensures) ▹ told (c3 .write-count .ensures) (ap (be 2) (sym (length-ids-from (start .args .first .0) (start .args .n)))) refl ▹ (c4 .write-ids .ensures)) (omega arith)) refl (omega arith)
+    let c1 = c2 .before .before in
+    let start = c1 .before .before .before in
+    let count = told (c4 .w16 .ensures) (ap (be 2) (sym (length-ids-from (start .args .first .0) (start .args .n)))) refl in
+    retold (boxed "dimg" (c2 .write-box .ensures) ((c3 .write-id .ensures) ▹ count ▹ (c5 .write-ids .ensures)) (omega (arith, c1 .ids-bytes .ensures .0))) refl (omega arith)
 
 pub write-dimg-tiles-spec : {M : Type 1} → statement M
-write-dimg-tiles-spec = tie.close (tie.spec (λ c. search needs) (λ c. search needs) (λ c κs. search needs) (λ c κs. search needs) (λ c κs. search needs) (λ c κs. search needs) (λ c. search needs) returns)
+write-dimg-tiles-spec = tie.close (tie.spec (λ c. search needs) (λ c κs. search needs) (λ c. search needs) (λ c κs. search needs) (λ c κs. search needs) (λ c. search needs) (λ c κs. search needs) (λ c κs. search needs) (λ c. search needs) returns)

@@ -2,7 +2,7 @@
 use borrow.Author.Needs.{needs}
 use mathlib.Core.Path.{refl, sym}
 use Rattle.octets.proofs.Stores.{_▹_, told}
-use Rattle.panel.specs.Items.{ordinary}
+use Rattle.panel.specs.Forms.{form-of}
 use Rattle.octets.proofs.Lists.{flatMap-append}
 use Rattle.panel.specs.Ipma.{association}
 use Rattle.gain_map.proofs.association.write_ipma.Statement.{statement}
@@ -12,7 +12,8 @@ returns : tie.Need-returns
 returns c =
     let c2 = c .before .before in
     let c1 = c2 .before .before .before .before in
-    told ((c1 .write-image-association .ensures) ▹ (c2 .write-tone-association .ensures)) (sym (flatMap-append (association ordinary) _ _)) refl
+    let start = c1 .before .before .before in
+    told ((c1 .write-image-association .ensures) ▹ (c2 .write-tone-association .ensures)) (sym (flatMap-append (association (form-of (start .args .form))) _ _)) refl
 
 pub write-ipma-spec : {M : Type 1} → statement M
 write-ipma-spec = tie.close (tie.spec (λ c κs. search needs) (λ c κs. search needs) (λ c. search needs) returns)

@@ -4,8 +4,9 @@ use native.Mathlib.Omega.{arith}
 use mathlib.Core.Path.{refl, ap}
 use Rattle.octets.proofs.Stores.{_▹_, kept, told, nothing}
 use mathlib.Core.Bool.{Bool, cond}
-use Prim.Native.Nat.{ℕ}
+use Prim.Native.Nat.{ℕ, _+_, _*_}
 use mathlib.Core.List.{flatMap}
+use Rattle.panel.specs.Forms.{form-of}
 use Rattle.locations.specs.Spans.{spans}
 use Rattle.gain_map.proofs.Joins.{tone-behind, tone-absent}
 use Rattle.gain_map.proofs.location.write_iloc.Statement.{statement}
@@ -14,20 +15,20 @@ use Rattle.gain_map.proofs.location.write_iloc.Tie as tie
 write-image-locations-requires : tie.Need-write-image-locations-requires
 write-image-locations-requires c κs =
     let start = c .before .before .before in
-    (omega (arith, start .pre .0, ap (λ (b : Bool). cond {A = ℕ} b 32 0) (c .before .if1 .taken)), (start .pre .1 .0, (c .before .if1 .taken, omega (arith, start .pre .1 .1))))
+    (omega (arith, start .pre .0, ap (λ (b : Bool). cond {A = ℕ} b (28 + 2 * form-of (start .args .form) .id) 0) (c .before .if1 .taken)), (start .pre .1 .0, omega (arith, start .pre .1 .1)))
 
 write-tone-location-requires : tie.Need-write-tone-location-requires
 write-tone-location-requires c κs =
     let c1 = c .before .before .before .before .before in
     let start = c1 .before .before .before .before in
-    (omega (arith, start .pre .0, (c1 .write-image-locations .ensures) .end, kept (c1 .write-image-locations .ensures), ap (λ (b : Bool). cond {A = ℕ} b 32 0) (c .before .before .before .before .before .before .before .if1 .taken)), start .pre .1 .0)
+    (omega (arith, start .pre .0, (c1 .write-image-locations .ensures) .end, kept (c1 .write-image-locations .ensures), ap (λ (b : Bool). cond {A = ℕ} b (28 + 2 * form-of (start .args .form) .id) 0) (c .before .before .before .before .before .before .before .if1 .taken)), start .pre .1 .0)
 
 returns : tie.Need-returns
 returns c =
     let c2 = c .before .before in
     let c1 = c2 .before .before .before .before .before .before in
     let start = c1 .before .before .before .before in
-    rw (c .before .before .before .before .before .before .before .before .before .before .if1 .taken) (told ((c1 .write-image-locations .ensures) ▹ (c2 .write-tone-location .ensures)) (tone-behind (start .args .s) (start .args .offset) (start .args .lengths .sample) (start .args .lengths .xmp) (start .args .lengths .tmap)) refl)
+    rw (c .before .before .before .before .before .before .before .before .before .before .if1 .taken) (told ((c1 .write-image-locations .ensures) ▹ (c2 .write-tone-location .ensures)) (tone-behind (form-of (start .args .form)) (start .args .s) (start .args .offset) (start .args .lengths .sample) (start .args .lengths .xmp) (start .args .lengths .tmap)) refl)
 
 returns-2 : tie.Need-returns-2
 unfolding spans flatMap

@@ -4,7 +4,7 @@ use mathlib.Core.Path.{refl, ap}
 use Rattle.octets.proofs.Stores.{_▹_, told}
 use Prim.Native.Nat.{ℕ}
 use mathlib.Core.List.{flatMap}
-use Rattle.panel.specs.Items.{ordinary}
+use Rattle.panel.specs.Forms.{form-of}
 use Rattle.panel.specs.Iloc.{entry, located}
 use Rattle.locations.specs.Spans.{spans, location}
 use Rattle.isobmff.proofs.location.write_alpha_locations.Statement.{statement}
@@ -17,7 +17,7 @@ returns c =
     let c2 = c3 .before .before in
     let c1 = c2 .before in
     let start = c1 .before .before .before in
-    told (c3 .write-tile-locations .ensures) (ap (λ (k : ℕ). flatMap (entry ordinary) (located k 0 (spans (start .args .offset) (start .args .lengths .now)))) (c1 .alpha-tile-base .ensures)) refl ▹ told (c4 .write-location .ensures) (ap (λ (k : ℕ). entry ordinary (location k 1 (start .args .descriptor) (start .args .descriptor))) (c2 .alpha-grid-id .ensures)) refl
+    told (c3 .write-tile-locations .ensures) (ap (λ (k : ℕ). flatMap (entry (form-of (start .args .form))) (located k 0 (spans (start .args .offset) (start .args .lengths .now)))) (c1 .alpha-tile-base .ensures)) refl ▹ told (c4 .write-location .ensures) (ap (λ (k : ℕ). entry (form-of (start .args .form)) (location k 1 (start .args .descriptor) (start .args .descriptor))) (c2 .alpha-grid-id .ensures)) refl
 
 pub write-alpha-locations-spec : {M : Type 1} → statement M
 write-alpha-locations-spec = tie.close (tie.spec (λ c κs. search needs) (λ c κs. search needs) (λ c κs. search needs) (λ c κs. search needs) (λ c. search needs) returns)

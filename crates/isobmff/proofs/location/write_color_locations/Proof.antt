@@ -3,7 +3,7 @@ use borrow.Author.Needs.{needs}
 use mathlib.Core.Path.{refl, ap}
 use Rattle.octets.proofs.Stores.{_▹_, told}
 use Prim.Native.Nat.{ℕ}
-use Rattle.panel.specs.Items.{ordinary}
+use Rattle.panel.specs.Forms.{form-of}
 use Rattle.panel.specs.Iloc.{entry}
 use Rattle.locations.specs.Spans.{location}
 use Rattle.isobmff.proofs.location.write_color_locations.Statement.{statement}
@@ -15,7 +15,7 @@ returns c =
     let c2 = c3 .before .before .before .before in
     let c1 = c2 .before .before in
     let start = c1 .before .before .before in
-    (c2 .write-tile-locations .ensures) ▹ told (c3 .write-location .ensures) (ap (λ (k : ℕ). entry ordinary (location k 1 0 (start .args .descriptor))) (c1 .color-grid-id .ensures)) refl
+    (c2 .write-tile-locations .ensures) ▹ told (c3 .write-location .ensures) (ap (λ (k : ℕ). entry (form-of (start .args .form)) (location k 1 0 (start .args .descriptor))) (c1 .color-grid-id .ensures)) refl
 
 pub write-color-locations-spec : {M : Type 1} → statement M
 write-color-locations-spec = tie.close (tie.spec (λ c κs. search needs) (λ c κs. search needs) (λ c κs. search needs) (λ c. search needs) returns)

@@ -4,7 +4,7 @@ use native.Mathlib.Omega.{arith}
 use mathlib.Core.Path.{refl, ap}
 use Rattle.octets.proofs.Stores.{_▹_, kept, told}
 use Prim.Native.Nat.{ℕ}
-use Rattle.panel.specs.Items.{ordinary}
+use Rattle.panel.specs.Forms.{form-of}
 use Rattle.panel.specs.Iloc.{entry}
 use Rattle.locations.specs.Spans.{location}
 use Rattle.isobmff.proofs.Locations.{exif-first}
@@ -14,7 +14,7 @@ use Rattle.isobmff.proofs.location.write_exif_locations.Tie as tie
 exif-id-requires : tie.Need-exif-id-requires
 exif-id-requires c κs =
     let start = c .before in
-    (start .pre .1 .0, start .pre .1 .1 .1)
+    start .pre .1 .0
 
 write-iloc-requires : tie.Need-write-iloc-requires
 write-iloc-requires c κs =
@@ -29,7 +29,7 @@ returns c =
     let c2 = c3 .before .before .before .before in
     let c1 = c2 .before .before in
     let start = c1 .before .before in
-    told (told (c2 .write-location .ensures) (ap (λ (k : ℕ). entry ordinary (location k 0 (start .args .offset) (start .args .exif))) (c1 .exif-id .ensures)) refl ▹ (c3 .write-iloc .ensures)) (exif-first (start .args .s) (start .args .offset) (start .args .exif) (start .args .gain) (start .pre .1 .1 .1)) refl
+    told (told (c2 .write-location .ensures) (ap (λ (k : ℕ). entry (form-of (start .args .form)) (location k 0 (start .args .offset) (start .args .exif))) (c1 .exif-id .ensures)) refl ▹ (c3 .write-iloc .ensures)) (exif-first (form-of (start .args .form)) (start .args .s) (start .args .offset) (start .args .exif) (start .args .gain) (start .pre .1 .1 .1)) refl
 
 pub write-exif-locations-spec : {M : Type 1} → statement M
 write-exif-locations-spec = tie.close (tie.spec exif-id-requires (λ c κs. search needs) (λ c. search needs) write-iloc-requires (λ c. search needs) returns)

@@ -1,11 +1,11 @@
 -- The head, the entries of both pictures, and the others.
 use borrow.Author.Needs.{needs}
 use native.Mathlib.Omega.{arith}
-use mathlib.Core.Path.{_≡_}
+use mathlib.Core.Path.{_≡_, ap}
 use Rattle.octets.proofs.Stores.{_▹_, kept, told}
 use mathlib.Core.Bool.{cond}
-use Prim.Native.Nat.{_+_, _*_}
-use Rattle.panel.specs.Items.{ordinary}
+use Prim.Native.Nat.{ℕ, _+_, _*_}
+use Rattle.panel.specs.Forms.{form-of}
 use lib.ListN.{length}
 use Rattle.isobmff.proofs.Locations.{iloc-joined, iloc-long}
 use Rattle.length.specs.Size.{iloc-size}
@@ -23,14 +23,14 @@ write-color-locations-requires : tie.Need-write-color-locations-requires
 write-color-locations-requires c κs =
     let c1 = c .before .before .before in
     let start = c1 .before .before .before .before .before in
-    (omega (arith, start .pre .0, start .pre .1 .1 .1 .0, (c1 .write-iloc-head .ensures) .end, kept (c1 .write-iloc-head .ensures), iloc-long (start .args .s)), (start .pre .1 .0, (start .pre .1 .1 .1 .0, start .pre .1 .1 .1 .1 .1 .0)))
+    (omega (arith, start .pre .0, ap (λ (n : ℕ). (14 + form-of (start .args .form) .id) * n) (start .pre .1 .1 .1 .0), (c1 .write-iloc-head .ensures) .end, kept (c1 .write-iloc-head .ensures), iloc-long (form-of (start .args .form)) (start .args .s)), (start .pre .1 .0, (start .pre .1 .1 .1 .0, start .pre .1 .1 .1 .1 .1 .0)))
 
 write-alpha-locations-requires : tie.Need-write-alpha-locations-requires
 write-alpha-locations-requires c κs =
     let c2 = c .before .before .before in
     let c1 = c2 .before .before .before .before in
     let start = c1 .before .before .before .before .before in
-    (omega (arith, start .pre .0, start .pre .1 .1 .1 .0, start .pre .1 .1 .1 .1 .0, (c1 .write-iloc-head .ensures) .end, kept (c1 .write-iloc-head .ensures), (c2 .write-color-locations .ensures) .end, kept (c2 .write-color-locations .ensures), iloc-long (start .args .s)), (start .pre .1 .0, (start .pre .1 .1 .1 .1 .0, start .pre .1 .1 .1 .1 .1 .1 .0)))
+    (omega (arith, start .pre .0, ap (λ (n : ℕ). (14 + form-of (start .args .form) .id) * n) (start .pre .1 .1 .1 .0), ap (λ (n : ℕ). (14 + form-of (start .args .form) .id) * n) (start .pre .1 .1 .1 .1 .0), (c1 .write-iloc-head .ensures) .end, kept (c1 .write-iloc-head .ensures), (c2 .write-color-locations .ensures) .end, kept (c2 .write-color-locations .ensures), iloc-long (form-of (start .args .form)) (start .args .s)), (start .pre .1 .0, (start .pre .1 .1 .1 .1 .0, start .pre .1 .1 .1 .1 .1 .1 .0)))
 
 write-other-locations-requires : tie.Need-write-other-locations-requires
 write-other-locations-requires c κs =
@@ -38,7 +38,7 @@ write-other-locations-requires c κs =
     let c2 = c3 .before .before .before .before in
     let c1 = c2 .before .before .before .before in
     let start = c1 .before .before .before .before .before in
-    (omega (arith, start .pre .0, start .pre .1 .1 .1 .0, start .pre .1 .1 .1 .1 .0, (c1 .write-iloc-head .ensures) .end, kept (c1 .write-iloc-head .ensures), (c2 .write-color-locations .ensures) .end, kept (c2 .write-color-locations .ensures), (c3 .write-alpha-locations .ensures) .end, kept (c3 .write-alpha-locations .ensures), iloc-long (start .args .s)), (start .pre .1 .0, start .pre .1 .1 .1 .1 .1 .1 .1))
+    (omega (arith, start .pre .0, ap (λ (n : ℕ). (14 + form-of (start .args .form) .id) * n) (start .pre .1 .1 .1 .0), ap (λ (n : ℕ). (14 + form-of (start .args .form) .id) * n) (start .pre .1 .1 .1 .1 .0), (c1 .write-iloc-head .ensures) .end, kept (c1 .write-iloc-head .ensures), (c2 .write-color-locations .ensures) .end, kept (c2 .write-color-locations .ensures), (c3 .write-alpha-locations .ensures) .end, kept (c3 .write-alpha-locations .ensures), iloc-long (form-of (start .args .form)) (start .args .s)), (start .pre .1 .0, start .pre .1 .1 .1 .1 .1 .1 .1))
 
 returns : tie.Need-returns
 returns c =
@@ -47,9 +47,10 @@ returns c =
     let c2 = c3 .before .before .before .before in
     let c1 = c2 .before .before .before .before in
     let start = c1 .before .before .before .before .before in
-    let long : 16 + ((16 * length (start .args .color-lengths .now) + 16) + ((16 * length (start .args .alpha-lengths .now) + 16) + (cond (start .args .s .exif) 16 0 + (cond (start .args .s .gain) 32 0 + cond (start .args .s .tone) 16 0)))) ≡ 8 + iloc-size ordinary (start .args .s)
-    = omega (arith, start .pre .1 .1 .1 .0, start .pre .1 .1 .1 .1 .0, iloc-long (start .args .s)) in
-    record { wrote = told ((c1 .write-iloc-head .ensures) ▹ (c2 .write-color-locations .ensures) ▹ (c3 .write-alpha-locations .ensures) ▹ (c4 .write-other-locations .ensures)) (iloc-joined (start .args .s) (start .args .size) (start .args .descriptor) (start .args .offsets .color) (start .args .offsets .alpha) (start .args .offsets .other) (start .args .color-lengths .now) (start .args .alpha-lengths .now) (other-sizes (start .args .s) (start .args .exif) (start .args .gain)) (start .pre .1 .1 .1 .0) (start .pre .1 .1 .1 .1 .0) (length-other-sizes (start .args .s) (start .args .exif) (start .args .gain)) (start .pre .1 .1 .0)) long }
+    let f = form-of (start .args .form) in
+    let long : 14 + f .count + (((14 + f .id) * length (start .args .color-lengths .now) + (14 + f .id)) + (((14 + f .id) * length (start .args .alpha-lengths .now) + (14 + f .id)) + (cond (start .args .s .exif) (14 + f .id) 0 + (cond (start .args .s .gain) (28 + 2 * f .id) 0 + cond (start .args .s .tone) (14 + f .id) 0)))) ≡ 8 + iloc-size (form-of (start .args .form)) (start .args .s)
+    = omega (arith, ap (λ (n : ℕ). (14 + form-of (start .args .form) .id) * n) (start .pre .1 .1 .1 .0), ap (λ (n : ℕ). (14 + form-of (start .args .form) .id) * n) (start .pre .1 .1 .1 .1 .0), iloc-long (form-of (start .args .form)) (start .args .s)) in
+    record { wrote = told ((c1 .write-iloc-head .ensures) ▹ (c2 .write-color-locations .ensures) ▹ (c3 .write-alpha-locations .ensures) ▹ (c4 .write-other-locations .ensures)) (iloc-joined (form-of (start .args .form)) (start .args .s) (start .args .size) (start .args .descriptor) (start .args .offsets .color) (start .args .offsets .alpha) (start .args .offsets .other) (start .args .color-lengths .now) (start .args .alpha-lengths .now) (other-sizes (start .args .s) (start .args .exif) (start .args .gain)) (start .pre .1 .1 .1 .0) (start .pre .1 .1 .1 .1 .0) (length-other-sizes (start .args .s) (start .args .exif) (start .args .gain)) (start .pre .1 .1 .0)) long }
 
 pub write-iloc-spec : {M : Type 1} → statement M
 write-iloc-spec = tie.close (tie.spec write-iloc-head-requires write-color-locations-requires write-alpha-locations-requires write-other-locations-requires (λ c. search needs) returns)

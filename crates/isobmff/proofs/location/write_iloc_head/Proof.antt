@@ -4,6 +4,7 @@ use native.Mathlib.Omega.{arith}
 use mathlib.Core.Path.{refl, ap}
 use Rattle.octets.proofs.Stores.{_▹_, kept, told}
 use Rattle.octets.specs.Numbers.{be}
+use Rattle.panel.specs.Forms.{form-of}
 use Rattle.isobmff.proofs.location.write_iloc_head.Statement.{statement}
 use Rattle.isobmff.proofs.location.write_iloc_head.Tie as tie
 
@@ -12,7 +13,7 @@ last-id-requires c κs =
     let c2 = c .before .before .before in
     let c1 = c2 .before .before .before .before in
     let start = c1 .before .before .before .before in
-    omega (arith, start .pre .1 .last)
+    omega (arith, start .pre .1 .few)
 
 write-count-requires : tie.Need-write-count-requires
 write-count-requires c κs =
@@ -20,7 +21,7 @@ write-count-requires c κs =
     let c2 = c3 .before .before .before .before in
     let c1 = c2 .before .before .before .before in
     let start = c1 .before .before .before .before in
-    (omega (arith, start .pre .0, (c1 .write-fullbox .ensures) .end, kept (c1 .write-fullbox .ensures), (c2 .w16 .ensures) .end, kept (c2 .w16 .ensures)), omega (arith, (c3 .last-id .ensures) .0, start .pre .1 .last))
+    omega (arith, start .pre .0, (c1 .write-item-box .ensures) .end, kept (c1 .write-item-box .ensures), (c2 .w16 .ensures) .end, kept (c2 .w16 .ensures))
 
 returns : tie.Need-returns
 returns c =
@@ -28,7 +29,8 @@ returns c =
     let c3 = c4 .before in
     let c2 = c3 .before .before .before .before in
     let c1 = c2 .before .before .before .before in
-    (c1 .write-fullbox .ensures) ▹ (c2 .w16 .ensures) ▹ told (c4 .write-count .ensures) (ap (be 2) ((c3 .last-id .ensures) .0)) refl
+    let start = c1 .before .before .before .before in
+    told ((c1 .write-item-box .ensures) ▹ (c2 .w16 .ensures) ▹ told (c4 .write-count .ensures) (ap (be (form-of (start .args .form) .count)) ((c3 .last-id .ensures) .0)) refl) refl (omega arith)
 
 pub write-iloc-head-spec : {M : Type 1} → statement M
 write-iloc-head-spec = tie.close (tie.spec (λ c κs. search needs) (λ c κs. search needs) last-id-requires write-count-requires (λ c. search needs) returns)

@@ -4,7 +4,8 @@ use native.Mathlib.Omega.{arith}
 use mathlib.Core.Path.{refl, ap}
 use Rattle.octets.proofs.Stores.{told}
 use mathlib.Core.Bool.{Bool, cond}
-use Prim.Native.Nat.{ℕ}
+use Prim.Native.Nat.{ℕ, _+_}
+use Rattle.panel.specs.Forms.{form-of}
 use Rattle.isobmff.proofs.Locations.{exif-absent}
 use Rattle.isobmff.proofs.location.write_other_locations.Statement.{statement}
 use Rattle.isobmff.proofs.location.write_other_locations.Tie as tie
@@ -12,23 +13,24 @@ use Rattle.isobmff.proofs.location.write_other_locations.Tie as tie
 write-exif-locations-requires : tie.Need-write-exif-locations-requires
 write-exif-locations-requires c κs =
     let start = c .before .before .before in
-    (omega (arith, start .pre .0, ap (λ (b : Bool). cond {A = ℕ} b 16 0) (c .before .if1 .taken)), (start .pre .1 .0, (start .pre .1 .1, c .before .if1 .taken)))
+    (omega (arith, start .pre .0, ap (λ (b : Bool). cond {A = ℕ} b (14 + form-of (start .args .form) .id) 0) (c .before .if1 .taken)), (start .pre .1 .0, (start .pre .1 .1, c .before .if1 .taken)))
 
 returns : tie.Need-returns
 returns c =
     let c1 = c .before .before in
-    told (c1 .write-exif-locations .ensures) refl (omega (arith, ap (λ (b : Bool). cond {A = ℕ} b 16 0) (c .before .before .before .before .if1 .taken)))
+    let start = c1 .before .before .before .before in
+    told (c1 .write-exif-locations .ensures) refl (omega (arith, ap (λ (b : Bool). cond {A = ℕ} b (14 + form-of (start .args .form) .id) 0) (c .before .before .before .before .if1 .taken)))
 
 write-iloc-requires : tie.Need-write-iloc-requires
 write-iloc-requires c κs =
     let start = c .before .before .before in
-    (omega (arith, start .pre .0, ap (λ (b : Bool). cond {A = ℕ} b 16 0) (c .before .if1 .left)), (start .pre .1 .0, omega (arith, start .pre .1 .1)))
+    (omega (arith, start .pre .0, ap (λ (b : Bool). cond {A = ℕ} b (14 + form-of (start .args .form) .id) 0) (c .before .if1 .left)), (start .pre .1 .0, omega (arith, start .pre .1 .1)))
 
 returns-2 : tie.Need-returns-2
 returns-2 c =
     let c1 = c .before .before in
     let start = c1 .before .before .before .before in
-    told (c1 .write-iloc .ensures) (exif-absent (start .args .s) (start .args .offset) (start .args .exif) (start .args .gain) (c .before .before .before .before .if1 .left)) (omega (arith, ap (λ (b : Bool). cond {A = ℕ} b 16 0) (c .before .before .before .before .if1 .left)))
+    told (c1 .write-iloc .ensures) (exif-absent (form-of (start .args .form)) (start .args .s) (start .args .offset) (start .args .exif) (start .args .gain) (c .before .before .before .before .if1 .left)) (omega (arith, ap (λ (b : Bool). cond {A = ℕ} b (14 + form-of (start .args .form) .id) 0) (c .before .before .before .before .if1 .left)))
 
 pub write-other-locations-spec : {M : Type 1} → statement M
 write-other-locations-spec = tie.close (tie.spec write-exif-locations-requires (λ c. search needs) returns write-iloc-requires (λ c. search needs) returns-2)

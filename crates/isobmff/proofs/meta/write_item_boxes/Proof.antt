@@ -5,6 +5,7 @@ use mathlib.Core.Path.{refl, ap}
 use Rattle.octets.proofs.Stores.{kept, retold, _▸_}
 use Prim.Native.Nat.{ℕ}
 use Rattle.octets.specs.Numbers.{be}
+use Rattle.panel.specs.Forms.{form-of}
 use mathlib.Core.List.{[], _∷_}
 use Rattle.octets.specs.Boxes.{full}
 use Rattle.isobmff.proofs.meta.write_item_boxes.Statement.{statement}
@@ -13,7 +14,7 @@ use Rattle.isobmff.proofs.meta.write_item_boxes.Tie as tie
 color-grid-id-requires : tie.Need-color-grid-id-requires
 color-grid-id-requires c κs =
     let start = c .before .before .before .before in
-    start .pre .1 .0 .shaped .last
+    start .pre .1 .0 .shaped
 
 write-hdlr-requires : tie.Need-write-hdlr-requires
 write-hdlr-requires c κs =
@@ -63,7 +64,8 @@ returns c =
     let c3 = c4 .before .before .before .before in
     let c2 = c3 .before .before .before .before in
     let c1 = c2 .before .before in
-    (c2 .write-hdlr .ensures) ▸ retold (c3 .write-pitm .ensures) (ap (λ (k : ℕ). full "pitm" 0 0 (be 2 k) ∷ []) (c1 .color-grid-id .ensures)) refl ▸ (c4 .write-iloc .ensures) ▸ (c5 .write-iinf .ensures) ▸ (c6 .write-iref .ensures)
+    let f = form-of (c1 .before .before .before .before .before .args .form) in
+    (c2 .write-hdlr .ensures) ▸ retold (c3 .write-pitm .ensures) (ap (λ (k : ℕ). full "pitm" (f .step) 0 (be (f .id) k) ∷ []) (c1 .color-grid-id .ensures)) refl ▸ (c4 .write-iloc .ensures) ▸ (c5 .write-iinf .ensures) ▸ (c6 .write-iref .ensures)
 
 pub write-item-boxes-spec : {M : Type 1} → statement M
 write-item-boxes-spec = tie.close (tie.spec color-grid-id-requires write-hdlr-requires write-pitm-requires write-iloc-requires write-iinf-requires write-iref-requires (λ c. search needs) returns)
