@@ -7,7 +7,7 @@ use native.Mathlib.Nat.{mul-le-mul}
 use native.Mathlib.Omega.{arith}
 use lib.Dec.{ltb, eqb}
 use lib.ListN.{length}
-use borrow.Author.Tests.{lt-ltb, le-ltb, le-leb, lt-leb, ltb-false, eqb-true, not-false}
+use borrow.Author.Tests.{lt-ltb, le-ltb, ltb-false, eqb-true, not-false}
 use Rattle.panel.specs.Panel.{Panel}
 use Rattle.panel.specs.Of.{Lent, gain-of, panel-of}
 use Rattle.panel.specs.Items.{Form, shape}

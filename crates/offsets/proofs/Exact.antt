@@ -1,7 +1,6 @@
 -- Where the boxes make a file nothing was capped, so that every size is the definition's.
 use mathlib.Core.Path.{_≡_}
 use Prim.Native.Nat.{_+_, _≤_}
-use native.Mathlib.Nat.{mul-le-mul}
 use native.Mathlib.Omega.{arith}
 use lib.ListN.{length}
 use Rattle.panel.specs.Panel.{Panel}
@@ -75,9 +74,6 @@ as-lengths f p z e s h =
     }
 
 -- ---- accepted panels
-
-pub few-accepted : (f : Form) (p : Panel) → Accepted f p → shape p .tiles ≤ 65536
-few-accepted f p a = omega (arith, a .count, mul-le-mul (a .rows-most) (a .cols-most))
 
 -- the boxes of an accepted panel make a file
 pub within : (f : Form) (p : Panel) (z : Sizes) → Accepted f p → Sized f p z → Within z (length (p .tiles .bytes)) (length (p .alpha .bytes))

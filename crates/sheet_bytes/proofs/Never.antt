@@ -5,7 +5,7 @@ use mathlib.Core.Option.{Option, none, some}
 use mathlib.Core.List.{List, [], _∷_, _++_, map}
 use Prim.Native.Nat.{ℕ, _+_, _*_, _^_, _≤_, _<_}
 use native.Mathlib.Omega.{arith}
-use borrow.Author.Tests.{eq-eqb, le-ltb, lt-leb, ltb-false}
+use borrow.Author.Tests.{eq-eqb, le-ltb, ltb-false}
 use lib.Dec.{ltb}
 use lib.ListN.{length}
 use Rattle.octets.specs.Numbers.{_‖_, total}
@@ -13,13 +13,14 @@ use Rattle.panel.specs.Panel.{Colour, Gain, Panel}
 use Rattle.panel.specs.Items.{ordinary, has, given, shape}
 use Rattle.panel.specs.Iloc.{wide}
 use Rattle.panel.specs.File.{rext, gain-rext, file}
-use Rattle.panel.specs.Refusal.{bad-grid, differ, bad-counts, bad-sum, last-id, bad-id, bad-items, too-long, refusal-in}
+use Rattle.panel.specs.Refusal.{bad-grid, differ, bad-counts, bad-sum, last-id, bad-items, too-long, refusal-in}
 use Rattle.panel.specs.Widths.{Of}
 use Rattle.panel.specs.Answer.{refused, outcome, write-answer}
 use Rattle.panel.specs.declared.GridDims.{GridDims}
 use Rattle.panel.specs.declared.color.Cicp.{Cicp}
 use Rattle.panel.specs.declared.metadata.Orientation.{Orientation}
 use Rattle.panel.specs.declared.metadata.Orientation.the-variants.{Normal, FlipH, Rotate180, FlipV, Transpose, Rotate90, Transverse, Rotate270}
+use Rattle.panel.proofs.Forms.{ordinary-items}
 use Rattle.length.specs.Parts.{Even}
 use Rattle.length.specs.Properties.{turn-count}
 use Rattle.length.specs.Shares.{Extra, share, wide-grid, alternate-cicp, light-level, grid-extras, turn-extras, exif-extras, colour-extras, profile-extras, alternate-extras, tone-extras, gain-extras, extras}
@@ -167,7 +168,7 @@ module _ (p : Panel) (b : Bounded p) where
   only room =
       let e2 : bad-counts (p .dims .rows * p .dims .cols) (length (p .tiles .lengths)) (length (p .alpha .lengths)) ≡ false = neither (alike (b .pictures .colour .count)) (alike (b .pictures .alpha .count)) in
       let e3 : (bad-sum (p .tiles) || bad-sum (p .alpha)) ≡ false = neither (alike (b .pictures .colour .sum)) (alike (b .pictures .alpha .sum)) in
-      let e4 : bad-items ordinary (shape p) ≡ false = neither (lt-leb _ _ id-small) (le-ltb 65535 (shape p .tiles) (omega (arith, id-small))) in
+      let e4 : bad-items ordinary (shape p) ≡ false = ordinary-items (shape p) ∙ le-ltb 65535 (last-id (shape p)) (omega (arith, id-small)) in
       let e5 : too-long (length (file ordinary p)) ≡ false = le-ltb _ _ file-small in
       first-of (bad-grid (p .dims .rows) (p .dims .cols)) _ _ _ _ (ltb room (length (file ordinary p))) e2 e3 e4 e5
 

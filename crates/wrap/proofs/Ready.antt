@@ -14,7 +14,7 @@ use Rattle.panel.specs.Ipco
 use Rattle.panel.specs.Ipco.{slots, ipco}
 use Rattle.panel.specs.Ipma.{positions, associations, ipma}
 use Rattle.panel.specs.File.{rext, gain-rext, data-at, file, iprp}
-use Rattle.panel.specs.Refusal.{last-id, refusal}
+use Rattle.panel.specs.Refusal.{refusal}
 use Rattle.panel.specs.declared.Panel.{Panel as Numbers}
 use Rattle.panel.specs.declared.Shape.{Shape}
 use Rattle.panel.proofs.Accepted.{Accepted, accepted}

@@ -6,12 +6,10 @@ use mathlib.Core.Bool.{Bool, true, false, cond}
 use mathlib.Core.List.{List, [], _∷_, _++_}
 use Prim.Native.Nat.{ℕ, _+_, _*_}
 use Rattle.octets.specs.Numbers.{_‖_, be, text}
-use Rattle.octets.proofs.Lists.{cond-mul}
 use Rattle.octets.proofs.Stores.{kept, retold, _▸_}
 use Rattle.panel.specs.Items.{given}
 use Rattle.panel.specs.Forms.{form-of}
 use Rattle.panel.specs.Iinf.{infe}
-use Rattle.boxes.proofs.Shapes.{given-by}
 use Rattle.gain_items.proofs.write_iinf.Statement.{statement}
 use Rattle.gain_items.proofs.write_iinf.Tie as tie
 
@@ -61,9 +59,9 @@ returns c =
     let s = start .args .s in
     let f = form-of (start .args .form) in
     let n = c1 .gain-id .ensures .0 in
-    let image = retold (c2 .write-given-infe .ensures) (given-by (s .gain) (λ k. infe f 1 k "hvc1" [] ∷ []) n) refl in
-    let xmp = retold (c3 .write-given-infe2 .ensures) (given-by (s .gain) (λ k. infe f 1 (k + 1) "mime" (text "application/rdf+xml" ‖ be 1 0) ∷ []) n) refl in
-    let tone = retold (c4 .write-given-infe3 .ensures) (given-by (s .tone) (λ k. infe f 0 (k + 2) "tmap" [] ∷ []) n) refl in
+    let image = retold (c2 .write-given-infe .ensures) (ap (λ (k : ℕ). given (s .gain) (infe f 1 k "hvc1" [] ∷ [])) n) refl in
+    let xmp = retold (c3 .write-given-infe2 .ensures) (ap (λ (k : ℕ). given (s .gain) (infe f 1 (k + 1) "mime" (text "application/rdf+xml" ‖ be 1 0) ∷ [])) n) refl in
+    let tone = retold (c4 .write-given-infe3 .ensures) (ap (λ (k : ℕ). given (s .tone) (infe f 0 (k + 2) "tmap" [] ∷ [])) n) refl in
     retold (image ▸ xmp ▸ tone) (both (s .gain) _ _ _) (omega (arith, sizes (s .gain) (f .id), alone (s .tone) (f .id)))
 
 pub write-iinf-spec : {M : Type 1} → statement M

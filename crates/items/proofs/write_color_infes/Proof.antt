@@ -1,7 +1,7 @@
 -- The tiles' entries and the grid's.
 use borrow.Author.Needs.{needs}
 use native.Mathlib.Omega.{arith}
-use mathlib.Core.Path.{refl, ap}
+use mathlib.Core.Path.{ap}
 use Rattle.octets.proofs.Stores.{retold, _▸_}
 use Prim.Native.Nat.{ℕ}
 use mathlib.Core.List.{[], _∷_}

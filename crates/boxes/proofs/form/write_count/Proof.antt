@@ -1,7 +1,7 @@
 -- By the test: the lower half does not see what lies above it.
 use borrow.Author.Needs.{needs}
 use native.Mathlib.Omega.{arith}
-use mathlib.Core.Path.{refl, sym}
+use mathlib.Core.Path.{refl}
 use Rattle.octets.proofs.Numbers.{be-mod}
 use Rattle.octets.proofs.Stores.{told}
 use Rattle.panel.proofs.Forms.{tested}
