@@ -1,20 +1,15 @@
-// The checks 1 to 4 of a panel, each of which answers whether it refuses; the items that check 4 looks at (shape); and the widths of a panel's
-// numbers (fits).
+// The checks 1 to 3 of a panel, each of which answers whether it refuses; what check 4 asks of (shape); and the widths of a panel's numbers (fits).
 
 pub mod fits;
 pub mod shape;
 
 ghost use mathlib.Core.Path.{_≡_};
 ghost use mathlib.Core.Bool.{_||_};
-ghost use Prim.Native.Nat.{_*_, _≤_};
+ghost use Prim.Native.Nat.{_*_};
 ghost use lib.Dec.{eqb};
 ghost use lib.ListN.{length};
 ghost use Rattle.octets.specs.Numbers.{total};
-ghost use Rattle.panel.specs.Forms.{form-of};
-ghost use Rattle.panel.specs.Refusal.{bad-side, bad-grid, differ, bad-counts, last-id, bad-id, bad-items};
-use crate::shape::last_id;
-use panel::FileForm;
-use panel::Shape;
+ghost use Rattle.panel.specs.Refusal.{bad-side, bad-grid, differ, bad-counts};
 
 // Whether rows or columns are too few or too many.
 pub fn bad_side(n: u32) -> bool
@@ -73,24 +68,4 @@ pub fn bad_sums(
 {
     !sums_to(color_lengths, color_samples.len() as u64)
         || !sums_to(alpha_lengths, alpha_samples.len() as u64)
-}
-
-// Whether the last id does not fit in the bytes that the form has for it.
-fn bad_last_id(form: FileForm, s: Shape) -> bool
-    requires { ⌜ s .tiles ≤ 65536 ⌝ }
-    ensures { λ r. ⌜ r ≡ bad-id (form-of form .id) (last-id s) ⌝ }
-{
-    let id = last_id(s);
-    if form.is_wide() {
-        return false;
-    }
-    65535 < id
-}
-
-// Check 4: the last id does not fit, or the tiles are more than a reference can count.
-pub fn bad_items(form: FileForm, s: Shape) -> bool
-    requires { ⌜ s .tiles ≤ 65536 ⌝ }
-    ensures { λ r. ⌜ r ≡ bad-items (form-of form) s ⌝ }
-{
-    bad_last_id(form, s) || 65535 < s.tiles
 }

@@ -1,8 +1,10 @@
 // The plan of a panel's file, computed from lengths alone before anything is written; and the length call.
 ghost use mathlib.Core.Path.{_≡_};
+ghost use Prim.Native.Nat.{_≤_};
 ghost use Rattle.panel.specs.Of.{Lent, panel-of};
 ghost use Rattle.panel.specs.Items.{ordinary};
 ghost use Rattle.panel.specs.Forms.{form-of};
+ghost use Rattle.panel.specs.Refusal.{last-id, bad-id, bad-items};
 ghost use Rattle.panel.specs.Widths.{Fits};
 ghost use Rattle.panel.specs.Answer.{says, length-answer};
 ghost use Rattle.layout.specs.Lent.{lent};
@@ -10,9 +12,9 @@ ghost use Rattle.layout.specs.Plan.{First, Planned};
 use boxes::ftyp::hvcc_uses_rext;
 use checks::bad_counts;
 use checks::bad_grid;
-use checks::bad_items;
 use checks::bad_sums;
 use checks::fits::numbers_fit;
+use checks::shape::last_id;
 use checks::shape::shape_of;
 use grids::descriptor_length;
 use offsets::Layout;
@@ -47,6 +49,26 @@ pub enum Plan {
 pub enum Checked {
     Refused(Refusal),
     Passed(Shape),
+}
+
+// Whether the last id does not fit in the bytes that the form has for it.
+fn bad_last_id(form: FileForm, s: Shape) -> bool
+    requires { ⌜ s .tiles ≤ 65536 ⌝ }
+    ensures { λ r. ⌜ r ≡ bad-id (form-of form .id) (last-id s) ⌝ }
+{
+    let id = last_id(s);
+    if form.is_wide() {
+        return false;
+    }
+    65535 < id
+}
+
+// Check 4: the last id does not fit, or the tiles are more than a reference can count.
+fn bad_items(form: FileForm, s: Shape) -> bool
+    requires { ⌜ s .tiles ≤ 65536 ⌝ }
+    ensures { λ r. ⌜ r ≡ bad-items (form-of form) s ⌝ }
+{
+    bad_last_id(form, s) || 65535 < s.tiles
 }
 
 // The checks 1 to 4 in their order, each with its own answer.

@@ -6,8 +6,8 @@ use Prim.Native.Nat.{ℕ}
 use borrow.Author.Tests.{lt-leb}
 use Rattle.panel.specs.Refusal.{last-id, bad-id}
 use Rattle.panel.proofs.Forms.{tested}
-use Rattle.checks.proofs.bad_last_id.Statement.{statement}
-use Rattle.checks.proofs.bad_last_id.Tie as tie
+use Rattle.layout.proofs.bad_last_id.Statement.{statement}
+use Rattle.layout.proofs.bad_last_id.Tie as tie
 
 returns : tie.Need-returns
 returns c =

@@ -2,8 +2,8 @@
 use borrow.Author.Needs.{needs}
 use mathlib.Core.Path.{sym, _∙_}
 use Rattle.octets.proofs.Tests.{or-here, or-next}
-use Rattle.checks.proofs.bad_items.Statement.{statement}
-use Rattle.checks.proofs.bad_items.Tie as tie
+use Rattle.layout.proofs.bad_items.Statement.{statement}
+use Rattle.layout.proofs.bad_items.Tie as tie
 
 returns : tie.Need-returns
 returns c =
