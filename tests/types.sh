@@ -1,6 +1,6 @@
 #!/usr/bin/env bash
-# An item id and a property position are not taken for each other, nor an id of any size for one of 16 bits: on a temporary copy, each given
-# for the other is a type error of the compiler, and the unedited copy passes.
+# An item id and a property position are not taken for each other, nor an id over u32 for one over u16: on a temporary copy, each given for
+# the other is a type error of the compiler, and the unedited copy passes.
 set -euo pipefail
 cd "$(dirname "$0")/.."
 
@@ -22,27 +22,30 @@ mistaken() {
     cp "crates/$1/src/$2" "$copy/crates/$1/src/$2"
 }
 
-for crate in boxes locations places; do
+for crate in boxes locations places ipma; do
     compiles "$crate" || fail "the unedited copy of $crate does not compile: $(tail -n 3 "$copy/out")"
 done
 
-# A position for an id: where a form's leaf takes the id of the ordinary form, and where the form has yet to be chosen.
+# A position for an id: in the leaves of the ordinary form, and where the form has yet to be chosen.
 position='panel::PropertyPosition(1)'
 for_ordinary="expected \`ItemId\`, found \`PropertyPosition\`"
 for_counted="expected \`WideItemId\`, found \`PropertyPosition\`"
 mistaken boxes ids.rt 'write_ordinary_id(out, at, ordinary_id(id))' "write_ordinary_id(out, at, $position)" "$for_ordinary"
 mistaken boxes ids.rt 'write_id(out, a, form, WideItemId(id))' "write_id(out, a, form, $position)" "$for_counted"
 mistaken boxes association.rt 'write_ordinary_head(out, at, ordinary_id(id)' "write_ordinary_head(out, at, $position" "$for_ordinary"
+mistaken boxes association.rt 'write_association_head(out, at, form, id' "write_association_head(out, at, form, $position" "$for_counted"
 mistaken boxes association.rt 'write_tile_association(out, a, form, WideItemId(id)' "write_tile_association(out, a, form, $position" "$for_counted"
 mistaken locations lib.rt 'write_ordinary_location(out, at, ordinary_id(id)' "write_ordinary_location(out, at, $position" "$for_ordinary"
 mistaken locations lib.rt 'write_location(out, a, form, WideItemId(id)' "write_location(out, a, form, $position" "$for_counted"
 
-# An id that has not been cut to 16 bits for one that has.
+# An id over u32 for one over u16.
 uncut="expected \`ItemId\`, found \`WideItemId\`"
+mistaken boxes ids.rt 'write_ordinary_id(out, at, ordinary_id(id))' 'write_ordinary_id(out, at, id)' "$uncut"
 mistaken boxes association.rt 'write_ordinary_head(out, at, ordinary_id(id)' 'write_ordinary_head(out, at, id' "$uncut"
 mistaken locations lib.rt 'write_ordinary_location(out, at, ordinary_id(id)' 'write_ordinary_location(out, at, id' "$uncut"
 
-# An id for a position.
+# An id for a position: where positions are counted, and in a run that goes to ipma's writers.
 mistaken places positions.rt 'PropertyPosition(e.0 + k)' 'panel::ItemId(1)' "expected \`PropertyPosition\`, found \`ItemId\`"
 mistaken places positions.rt 'PropertyPosition(e.0 + k)' 'panel::WideItemId(1)' "expected \`PropertyPosition\`, found \`WideItemId\`"
-echo "types: a position is not taken for an id, nor an id for a position"
+mistaken ipma lib.rt 'first: behind' 'first: panel::ItemId(1)' "expected \`PropertyPosition\`, found \`ItemId\`"
+echo "types: a position is not taken for an id, nor an id for a position, nor an id over u32 for one over u16"

@@ -1,6 +1,6 @@
 // What a form of the file decides: how many bytes an item's id and a count of items take, and the versions of the boxes that hold them.
 ghost use mathlib.Core.Path.{_≡_};
-ghost use Prim.Native.Nat.{_+_, _*_, _≤_};
+ghost use Prim.Native.Nat.{_+_, _*_, _≤_, _<_};
 ghost use lib.ListN.{length};
 ghost use Rattle.octets.specs.Numbers.{_‖_, be};
 ghost use Rattle.octets.specs.Stores.{Wrote};
@@ -12,7 +12,7 @@ use panel::FileForm;
 
 // How many bytes n ids take.
 pub fn ids_bytes(form: FileForm, n: u32) -> u32
-    requires { ⌜ n ≤ 1000000 ⌝ }
+    requires { ⌜ 4 * n < 4294967296 ⌝ }
     ensures { λ r. ⌜ r ≡ form-of form .id * n ⌝ }
     ensures { λ r. ⌜ r ≤ 4 * n ⌝ }
 {
@@ -46,7 +46,7 @@ pub fn write_count(out: &mut [u8], at: usize, form: FileForm, n: u32) -> usize
 
 // The version of a box that holds ids or counts of items, from the one that it has in the ordinary form.
 fn version(form: FileForm, ordinary: u8) -> u8
-    requires { ⌜ ordinary ≤ 2 ⌝ }
+    requires { ⌜ ordinary < 255 ⌝ }
     ensures { λ r. ⌜ r ≡ ordinary + form-of form .step ⌝ }
 {
     if form.is_wide() {
@@ -66,7 +66,7 @@ pub fn write_item_box(
     flags: u32,
 ) -> usize
     requires { ⌜ at + 12 ≤ length (now out) ⌝ }
-    requires { ⌜ ver ≤ 2 ⌝ }
+    requires { ⌜ ver < 255 ⌝ }
     ensures { λ r. ⌜ Wrote (now (out .entry)) at 12 (be 4 size ‖ now (cc .entry) ‖ be 1 (ver + form-of form .step) ‖ be 3 flags) (now (out .exit)) r ⌝ }
 {
     write_fullbox(out, at, size, cc, version(form, ver), flags)

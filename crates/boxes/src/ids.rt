@@ -9,6 +9,7 @@ ghost use Rattle.panel.specs.Items.{ids-from, colour-grid, alpha-tile, alpha-gr
 ghost use Rattle.panel.specs.Forms.{form-of};
 ghost use Rattle.boxes.specs.Runs.{Shaped};
 use octets::w16;
+use octets::w32;
 use octets::when;
 use panel::FileForm;
 use panel::ItemId;
@@ -35,9 +36,10 @@ pub fn write_id(out: &mut [u8], at: usize, form: FileForm, id: WideItemId) -> us
     requires { ⌜ at + form-of form .id ≤ length (now out) ⌝ }
     ensures { λ r. ⌜ Wrote (now (out .entry)) at (form-of form .id) (be (form-of form .id) (id .0)) (now (out .exit)) r ⌝ }
 {
-    match form {
-        FileForm::Ordinary => write_ordinary_id(out, at, ordinary_id(id)),
+    if form.is_wide() {
+        return w32(out, at, id.0);
     }
+    write_ordinary_id(out, at, ordinary_id(id))
 }
 
 // Writes n ids from `first` on.
@@ -87,11 +89,27 @@ pub fn exif_id(s: Shape) -> WideItemId
     WideItemId(2 * s.tiles + 3)
 }
 
-// The gain image's id, where it is present; its XMP and the tone map have the two behind it.
+// The gain image's id, where it is present.
 pub fn gain_id(s: Shape) -> WideItemId
     requires { ⌜ Shaped s ⌝ }
     ensures { λ r. ⌜ r .0 ≡ gain-id s ⌝ }
-    ensures { λ r. ⌜ r .0 ≤ 131074 ⌝ }
 {
     WideItemId(2 * s.tiles + 3 + when(s.exif, 1))
+}
+
+// The id of its XMP.
+pub fn xmp_id(s: Shape) -> WideItemId
+    requires { ⌜ Shaped s ⌝ }
+    ensures { λ r. ⌜ r .0 ≡ gain-id s + 1 ⌝ }
+{
+    WideItemId(2 * s.tiles + 4 + when(s.exif, 1))
+}
+
+// The tone map's id, where it is present.
+pub fn tmap_id(s: Shape) -> WideItemId
+    requires { ⌜ Shaped s ⌝ }
+    ensures { λ r. ⌜ r .0 ≡ gain-id s + 2 ⌝ }
+    ensures { λ r. ⌜ r .0 < 4294967295 ⌝ }
+{
+    WideItemId(2 * s.tiles + 5 + when(s.exif, 1))
 }

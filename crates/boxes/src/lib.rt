@@ -1,4 +1,4 @@
-// One writer for each box, by value; those of the properties are in `properties`.
+// One writer for each box, by value; those of the properties are in `properties`. What the form of the file decides of a box is in `form`.
 //
 // Each writes at a position of a lent buffer, answers the position behind what it wrote, and is proved equal to its definition in `panel`.
 

@@ -1,6 +1,6 @@
 // The references of iref.
 ghost use mathlib.Core.List.{[], _∷_, flatMap};
-ghost use Prim.Native.Nat.{_+_, _*_, _≤_};
+ghost use Prim.Native.Nat.{_+_, _*_, _≤_, _<_};
 ghost use lib.ListN.{length};
 ghost use Rattle.octets.specs.Numbers.{_‖_, be};
 ghost use Rattle.octets.specs.Boxes.{box-of};
@@ -64,7 +64,7 @@ pub fn write_dimg_tiles(
 ) -> usize
     requires { ⌜ at + (10 + form-of form .id + form-of form .id * n) ≤ length (now out) ⌝ }
     requires { ⌜ n ≤ 65535 ⌝ }
-    requires { ⌜ first .0 ≤ 131072 ⌝ }
+    requires { ⌜ first .0 + n < 4294967296 ⌝ }
     ensures { λ r. ⌜ Boxed (now (out .entry)) at (10 + form-of form .id + form-of form .id * n) (reference (form-of form) "dimg" (from .0) (ids-from (first .0) n) ∷ []) (now (out .exit)) r ⌝ }
 {
     let a = write_box(out, at, 10 + ids_bytes(form, n + 1), b"dimg");

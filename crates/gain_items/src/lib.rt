@@ -13,12 +13,13 @@ ghost use Rattle.boxes.specs.Runs.{Shaped};
 use boxes::grpl::write_grpl;
 use boxes::ids::color_grid_id;
 use boxes::ids::gain_id;
+use boxes::ids::tmap_id;
+use boxes::ids::xmp_id;
 use boxes::infe::write_given_infe;
 use boxes::reference::write_dimg_pair;
 use boxes::reference::write_ref;
 use panel::FileForm;
 use panel::Shape;
-use panel::WideItemId;
 
 // The gain map's entries in iinf: the gain image and its XMP are hidden, the tone map is not.
 pub fn write_iinf(out: &mut [u8], at: usize, form: FileForm, s: Shape) -> usize
@@ -27,8 +28,8 @@ pub fn write_iinf(out: &mut [u8], at: usize, form: FileForm, s: Shape) -> usize
     ensures { λ r. ⌜ Boxed (now (out .entry)) at (cond (s .gain) (58 + 2 * form-of form .id) 0 + cond (s .tone) (19 + form-of form .id) 0) (gain-infes (form-of form) s) (now (out .exit)) r ⌝ }
 {
     let image = gain_id(s);
-    let xmp = WideItemId(image.0 + 1);
-    let tone = WideItemId(image.0 + 2);
+    let xmp = xmp_id(s);
+    let tone = tmap_id(s);
     let a = write_given_infe(out, at, form, s.gain, image, b"hvc1", true, b"");
     let b = write_given_infe(
         out,
@@ -51,7 +52,7 @@ fn write_image_refs(out: &mut [u8], at: usize, form: FileForm, s: Shape) -> usiz
 {
     if s.gain {
         let image = gain_id(s);
-        let xmp = WideItemId(image.0 + 1);
+        let xmp = xmp_id(s);
         let grid = color_grid_id(s);
         let a = write_ref(out, at, form, b"auxl", image, grid);
         return write_ref(out, a, form, b"cdsc", xmp, image);
@@ -66,9 +67,9 @@ fn write_tone_ref(out: &mut [u8], at: usize, form: FileForm, s: Shape) -> usize
     ensures { λ r. ⌜ Boxed (now (out .entry)) at (cond (s .tone) (10 + 3 * form-of form .id) 0) (given (s .tone) (reference (form-of form) "dimg" (gain-id s + 2) (colour-grid s ∷ gain-id s ∷ []) ∷ [])) (now (out .exit)) r ⌝ }
 {
     if s.tone {
-        let image = gain_id(s);
-        let tone = WideItemId(image.0 + 2);
+        let tone = tmap_id(s);
         let grid = color_grid_id(s);
+        let image = gain_id(s);
         return write_dimg_pair(out, at, form, tone, grid, image);
     }
     at
@@ -91,8 +92,7 @@ pub fn write_groups(out: &mut [u8], at: usize, s: Shape) -> usize
     ensures { λ r. ⌜ Boxed (now (out .entry)) at (cond (s .tone) 36 0) (grpl s) (now (out .exit)) r ⌝ }
 {
     if s.tone {
-        let image = gain_id(s);
-        let tone = WideItemId(image.0 + 2);
+        let tone = tmap_id(s);
         let grid = color_grid_id(s);
         return write_grpl(out, at, tone, grid);
     }

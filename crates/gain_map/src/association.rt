@@ -17,9 +17,9 @@ use boxes::association::write_association_head;
 use boxes::association::write_run;
 use boxes::association::write_runs;
 use boxes::ids::gain_id;
+use boxes::ids::tmap_id;
 use panel::FileForm;
 use panel::Shape;
-use panel::WideItemId;
 use places::associations::image_count;
 use places::associations::tone_count;
 use places::positions::ImagePlaces;
@@ -87,8 +87,7 @@ fn write_tone_association(
     let pixi = p.pixi;
     let colr = p.colr;
     if s.tone {
-        let image = gain_id(s);
-        let id = WideItemId(image.0 + 2);
+        let id = tmap_id(s);
         let a = write_association_head(out, at, form, id, tone_count(p));
         return write_runs(out, a, ispe, pixi, colr, false);
     }

@@ -11,10 +11,11 @@ ghost use Rattle.locations.specs.Spans.{spans};
 ghost use Rattle.boxes.specs.Runs.{Shaped};
 ghost use Rattle.gain_map.specs.Sizes.{sizes};
 use boxes::ids::gain_id;
+use boxes::ids::tmap_id;
+use boxes::ids::xmp_id;
 use locations::write_location;
 use panel::FileForm;
 use panel::Shape;
-use panel::WideItemId;
 
 // The lengths of the gain map's payloads: the sample, the XMP and the tone map, 0 where there is none.
 pub struct PayloadLengths {
@@ -37,8 +38,7 @@ fn write_tone_location(
     ensures { λ r. ⌜ Wrote (now (out .entry)) at (cond (s .tone) (14 + form-of form .id) 0) (flatMap (entry (form-of form)) (located (gain-id s + 2) 0 (spans offset (given (s .tone) (size ∷ []))))) (now (out .exit)) r ⌝ }
 {
     if s.tone {
-        let image = gain_id(s);
-        let tone = WideItemId(image.0 + 2);
+        let tone = tmap_id(s);
         return write_location(out, at, form, tone, 0, offset, size);
     }
     at
@@ -60,7 +60,7 @@ fn write_image_locations(
     ensures { λ r. ⌜ Wrote (now (out .entry)) at (28 + 2 * form-of form .id) (flatMap (entry (form-of form)) (located (gain-id s) 0 (spans offset (sample ∷ xmp ∷ [])))) (now (out .exit)) r ⌝ }
 {
     let image = gain_id(s);
-    let second = WideItemId(image.0 + 1);
+    let second = xmp_id(s);
     let a = write_location(out, at, form, image, 0, offset, sample);
     write_location(out, a, form, second, 0, offset + sample, xmp)
 }

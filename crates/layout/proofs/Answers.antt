@@ -55,7 +55,7 @@ few rows cols t a e f =
 
 -- ---- the checks of a panel that is lent, by what the code tests
 
-module _ (f : Form) (n : Numbers) (l : Lent) where
+module _ (n : Numbers) (l : Lent) where
   abbrev pub Sides : Bool → Type 0
   Sides b = bad-grid (n .dims .rows) (n .dims .cols) ≡ b
 
@@ -65,15 +65,27 @@ module _ (f : Form) (n : Numbers) (l : Lent) where
   abbrev pub Sums : Bool → Type 0
   Sums b = (bad-sum (l .tiles) || bad-sum (l .alpha)) ≡ b
 
-  pub stop-1 : Sides true → refused 1 ≡ length-answer f (panel-of n l)
+  module _ (h : Sides false) (i : Counts false) (j : Sums false) where
+    -- both pictures have as many tiles, whose lengths sum to what is lent
+    pub even : Even (panel-of n l)
+    unfolding panel-of
+    even =
+        let k = n .dims .rows * n .dims .cols in
+        let counts = or-false (differ (length (l .tiles .lengths)) k) (differ (length (l .alpha .lengths)) k) i in
+        let sums = or-false (bad-sum (l .tiles)) (bad-sum (l .alpha)) j in
+        record { counts = same _ _ (counts .1) ∙ sym (same _ _ (counts .0)); sum = same _ _ (sums .0); alpha-sum = same _ _ (sums .1) }
+
+-- in a form
+module _ (f : Form) (n : Numbers) (l : Lent) where
+  pub stop-1 : Sides n l true → refused 1 ≡ length-answer f (panel-of n l)
   unfolding panel-of
   stop-1 a = answered f _ (stop (all f (panel-of n l)) a)
 
-  pub stop-2 : Sides false → Counts true → refused 2 ≡ length-answer f (panel-of n l)
+  pub stop-2 : Sides n l false → Counts n l true → refused 2 ≡ length-answer f (panel-of n l)
   unfolding panel-of
   stop-2 a b = answered f _ (stop (pass (all f (panel-of n l)) a) b)
 
-  pub stop-3 : Sides false → Counts false → Sums true → refused 3 ≡ length-answer f (panel-of n l)
+  pub stop-3 : Sides n l false → Counts n l false → Sums n l true → refused 3 ≡ length-answer f (panel-of n l)
   unfolding panel-of
   stop-3 a b c = answered f _ (stop (pass (pass (all f (panel-of n l)) a) b) c)
 
@@ -89,16 +101,7 @@ module _ (f : Form) (n : Numbers) (l : Lent) where
   given e y i k c g =
       record { even = even-accepted f _ (is-accepted f _ e); sized = y; items = i; grid = k ∙ sym (length-descriptor (n .dims)); colors = refl; alphas = refl; color-rext = c; gain-rext = g }
 
-  module _ (h : Sides false) (i : Counts false) (j : Sums false) where
-    -- both pictures have as many tiles, whose lengths sum to what is lent
-    pub even : Even (panel-of n l)
-    unfolding panel-of
-    even =
-        let k = n .dims .rows * n .dims .cols in
-        let counts = or-false (differ (length (l .tiles .lengths)) k) (differ (length (l .alpha .lengths)) k) i in
-        let sums = or-false (bad-sum (l .tiles)) (bad-sum (l .alpha)) j in
-        record { counts = same _ _ (counts .1) ∙ sym (same _ _ (counts .0)); sum = same _ _ (sums .0); alpha-sum = same _ _ (sums .1) }
-
+  module _ (h : Sides n l false) (i : Counts n l false) (j : Sums n l false) where
     -- s is the shape of the panel
     module _ {s : Shape} (e : s ≡ shape (panel-of n l)) where
       pub stop-4 : bad-items f s ≡ true → refused 4 ≡ length-answer f (panel-of n l)
@@ -112,10 +115,10 @@ module _ (f : Form) (n : Numbers) (l : Lent) where
 -- none of the first four checks holds, and r stands for the file's length
 module _ (f : Form) (n : Numbers) (l : Lent) {s : Shape} (h : Passes f n l s) {r : ℕ} (c : Capped 4294967296 r (size f (panel-of n l))) where
   abbrev evenly : Even (panel-of n l)
-  evenly = even f n l (h .sides) (h .counts) (h .sums)
+  evenly = even n l (h .sides) (h .counts) (h .sums)
 
   abbrev decides : Decides (refusal f (panel-of n l)) (record { number = 5; holds = λ _. ltb 4294967295 (length (file f (panel-of n l))) } ∷ [])
-  decides = behind-4 f n l (h .sides) (h .counts) (h .sums) (h .items) (h .last)
+  decides = behind-4 f n l (h .sides) (h .counts) (h .sums) (h .items) (h .ids)
 
   pub stop-5 : 4294967295 < r → refused 5 ≡ length-answer f (panel-of n l)
   stop-5 d =

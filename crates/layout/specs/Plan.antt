@@ -25,7 +25,7 @@ pub record Passes (f : Form) (n : Numbers) (l : Lent) (s : Shape) : Type 0 where
   pub counts : bad-counts (n .dims .rows * n .dims .cols) (length (l .tiles .lengths)) (length (l .alpha .lengths)) ≡ false
   pub sums : (bad-sum (l .tiles) || bad-sum (l .alpha)) ≡ false
   pub items : s ≡ shape (panel-of n l)
-  pub last : bad-items f s ≡ false
+  pub ids : bad-items f s ≡ false
   pub few : s .tiles ≤ 65536
 
 abbrev pub First : Form → Numbers → Lent → Checked → Type 0

@@ -58,6 +58,7 @@ fn bad_last_id(form: FileForm, s: Shape) -> bool
 {
     let id = last_id(s);
     if form.is_wide() {
+        // 32 bits hold the last id of so many tiles.
         return false;
     }
     65535 < id
@@ -220,7 +221,7 @@ pub fn form_length(
     }
 }
 
-// The length of the ordinary file.
+// The length of a panel's file in the ordinary form, or why it is refused.
 // Above 40 lines by its parameters, one to a line: each byte part is a slice of its own.
 pub fn file_length(
     panel: Panel,

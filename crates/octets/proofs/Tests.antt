@@ -29,6 +29,12 @@ or-false false b e = (refl, e)
 pub or-second : (a b : Bool) → (a || b) ≡ true → a ≡ false → b ≡ true
 or-second a b e h = sym (ap (λ (x : Bool). x || b) h) ∙ e
 
+-- the second holds only where the first does
+pub or-absorbs : (a b : Bool) → (b ≡ true → a ≡ true) → (a || b) ≡ a
+or-absorbs true b h = refl
+or-absorbs false true h = sym (h refl)
+or-absorbs false false h = refl
+
 -- both hold
 pub and-both : (a b : Bool) → (a && b) ≡ true → (a ≡ true) × (b ≡ true)
 and-both true b e = (refl, e)

@@ -8,8 +8,8 @@ use Rattle.panel.specs.declared.FileForm.the-variants.{Ordinary}
 unfoldable pub form-of : FileForm → Form
 form-of Ordinary = ordinary
 
--- ids and counts of items take 32 bits if wide, else 16; and the versions of the boxes that hold them are one up
-pub record Widths (wide : Bool) (f : Form) : Type 0 where
+-- if wide, ids and counts of items take 32 bits, and the versions of the boxes that hold them are one up; else they take 16 bits
+pub record Form-widths (wide : Bool) (f : Form) : Type 0 where
   pub id : f .id ≡ cond wide 4 2
   pub count : f .count ≡ cond wide 4 2
   pub step : f .step ≡ cond wide 1 0

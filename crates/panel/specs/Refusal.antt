@@ -33,7 +33,7 @@ last-id s = alpha-grid s + cond (s .exif) 1 0 + cond (s .gain) 2 0 + cond (s .to
 abbrev pub bad-id : ℕ → ℕ → Bool
 bad-id k id = leb (2 ^ (8 * k)) id
 
--- nor the tiles in the 16 bits that a reference has for their count
+-- the last id does not fit in the form's id, or the tiles are more than the 16 bits of a reference's count hold
 abbrev pub bad-items : Form → Shape → Bool
 bad-items f s = bad-id (f .id) (last-id s) || ltb 65535 (s .tiles)
 

@@ -8,7 +8,7 @@ pub mod fmt;
 pub mod gain_map;
 pub mod metadata;
 
-ghost use Rattle.panel.specs.Forms.{form-of, Widths};
+ghost use Rattle.panel.specs.Forms.{form-of, Form-widths};
 use crate::color::ColorMetadata;
 use crate::fmt::BitDepth;
 use crate::gain_map::MaybeGainMap;
@@ -22,7 +22,7 @@ pub enum FileForm {
 impl FileForm {
     // Whether ids and counts of items take 32 bits; else they take 16.
     pub fn is_wide(self) -> bool
-        ensures { λ r. ⌜ Widths r (form-of self) ⌝ }
+        ensures { λ r. ⌜ Form-widths r (form-of self) ⌝ }
     {
         match self {
             FileForm::Ordinary => false,
@@ -33,8 +33,8 @@ impl FileForm {
 // An item's id in the ordinary form. Not a property's position: neither is taken for the other.
 pub struct ItemId(pub u16);
 
-// An item's id as it is counted, before the form says how many bytes it takes. Of an absent item, or of a panel that is refused, it may be
-// more than the ordinary form holds.
+// An item's id as it is counted, before the form says how many bytes it takes. That of an absent item may be more than the ordinary form
+// holds.
 pub struct WideItemId(pub u32);
 
 // A property's position in ipco, counted from 1.
@@ -75,7 +75,7 @@ pub enum Refusal {
     TileCount,
     // 3: the lengths do not sum to the bytes lent.
     SampleLengths,
-    // 4: the last item id is above 65,535.
+    // 4: the last item id is more than the form can write; in the ordinary form, above 65,535.
     ItemIds,
     // 5: the file would exceed 4,294,967,295 bytes.
     FileLength,

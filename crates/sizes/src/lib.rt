@@ -131,7 +131,6 @@ pub fn mdat_size(panel: Panel, y: Lengths) -> u64
 }
 
 // The size of every box, that of ipma from the places of the properties. color and gain: the record is of the range extensions' profile.
-// Nine calls: one for each box whose size is worked out, and the group of a tone map.
 pub fn sizes_of(
     form: FileForm,
     panel: Panel,

@@ -147,7 +147,7 @@ fn write_file(
     )
 }
 
-// The file of a panel in a form, and its length; or why it is refused, and the output as it was.
+// The file of a panel in a form, in the output, and its length; or why it is refused, and the output as it was.
 // Above 40 lines by its parameters, one to a line: each byte part is a slice of its own.
 pub fn wrap_in_form(
     form: FileForm,
@@ -220,7 +220,7 @@ pub fn wrap_in_form(
     }
 }
 
-// The ordinary file.
+// The file of a panel in the ordinary form, in the output, and its length; or why it is refused, and the output as it was.
 // Above 40 lines by its parameters, one to a line: each byte part is a slice of its own.
 pub fn wrap_hevc_grid_with_alpha(
     panel: Panel,

@@ -4,7 +4,7 @@ use native.Mathlib.Omega.{arith}
 use mathlib.Core.Path.{refl, ap}
 use mathlib.Core.Bool.{Bool, cond}
 use mathlib.Core.List.{[], _∷_}
-use Prim.Native.Nat.{ℕ, _+_}
+use Prim.Native.Nat.{ℕ}
 use Rattle.octets.specs.Boxes.{boxes, box}
 use Rattle.octets.proofs.Stores.{retold, no-boxes}
 use Rattle.panel.specs.File.{altr}
@@ -13,7 +13,7 @@ use Rattle.gain_items.proofs.write_groups.Tie as tie
 
 write-grpl-requires : tie.Need-write-grpl-requires
 write-grpl-requires c κs =
-    let i = c .before .before .before .before in
+    let i = c .before .before .before in
     let start = i .before .before in
     (omega (arith, start .pre .0, ap (λ (b : Bool). cond {A = ℕ} b 36 0) (i .if1 .taken)), omega arith)
 
@@ -21,12 +21,12 @@ returns : tie.Need-returns
 returns c =
     let c3 = c .before .before in
     let c2 = c3 .before .before in
-    let c1 = c2 .before .before in
-    rw (c1 .before .if1 .taken) (retold (c3 .write-grpl .ensures) (λ i. box "grpl" (boxes (altr ((c1 .gain-id .ensures .0) i + 2) ((c2 .color-grid-id .ensures) i) ∷ [])) ∷ []) refl)
+    let c1 = c2 .before in
+    rw (c1 .before .if1 .taken) (retold (c3 .write-grpl .ensures) (λ i. box "grpl" (boxes (altr ((c1 .tmap-id .ensures .0) i) ((c2 .color-grid-id .ensures) i) ∷ [])) ∷ []) refl)
 
 returns-2 : tie.Need-returns-2
 returns-2 c =
     rw (c .if1 .left) no-boxes
 
 pub write-groups-spec : {M : Type 1} → statement M
-write-groups-spec = tie.close (tie.spec (λ c κs. search needs) (λ c. search needs) (λ c κs. search needs) write-grpl-requires (λ c. search needs) returns returns-2)
+write-groups-spec = tie.close (tie.spec (λ c κs. search needs) (λ c κs. search needs) write-grpl-requires (λ c. search needs) returns returns-2)

@@ -51,18 +51,19 @@ write-given-infe-requires-3 c κs =
 
 returns : tie.Need-returns
 returns c =
-    let c4 = c .before .before in
-    let c3 = c4 .before .before .before .before .before .before in
-    let c2 = c3 .before .before .before .before .before .before in
-    let c1 = c2 .before .before .before .before .before .before in
+    let c6 = c .before .before in
+    let c5 = c6 .before .before .before .before .before .before in
+    let c4 = c5 .before .before .before .before .before .before in
+    let c3 = c4 .before .before .before .before in
+    let c2 = c3 .before in
+    let c1 = c2 .before in
     let start = c1 .before .before in
     let s = start .args .s in
     let f = form-of (start .args .form) in
-    let n = c1 .gain-id .ensures .0 in
-    let image = retold (c2 .write-given-infe .ensures) (ap (λ (k : ℕ). given (s .gain) (infe f 1 k "hvc1" [] ∷ [])) n) refl in
-    let xmp = retold (c3 .write-given-infe2 .ensures) (ap (λ (k : ℕ). given (s .gain) (infe f 1 (k + 1) "mime" (text "application/rdf+xml" ‖ be 1 0) ∷ [])) n) refl in
-    let tone = retold (c4 .write-given-infe3 .ensures) (ap (λ (k : ℕ). given (s .tone) (infe f 0 (k + 2) "tmap" [] ∷ [])) n) refl in
+    let image = retold (c4 .write-given-infe .ensures) (ap (λ (k : ℕ). given (s .gain) (infe f 1 k "hvc1" [] ∷ [])) (c1 .gain-id .ensures)) refl in
+    let xmp = retold (c5 .write-given-infe2 .ensures) (ap (λ (k : ℕ). given (s .gain) (infe f 1 k "mime" (text "application/rdf+xml" ‖ be 1 0) ∷ [])) (c2 .xmp-id .ensures)) refl in
+    let tone = retold (c6 .write-given-infe3 .ensures) (ap (λ (k : ℕ). given (s .tone) (infe f 0 k "tmap" [] ∷ [])) (c3 .tmap-id .ensures .0)) refl in
     retold (image ▸ xmp ▸ tone) (both (s .gain) _ _ _) (omega (arith, sizes (s .gain) (f .id), alone (s .tone) (f .id)))
 
 pub write-iinf-spec : {M : Type 1} → statement M
-write-iinf-spec = tie.close (tie.spec (λ c κs. search needs) (λ c. search needs) (λ c. search needs) (λ c. search needs) write-given-infe-requires (λ c. search needs) write-given-infe-requires-2 (λ c. search needs) write-given-infe-requires-3 (λ c. search needs) returns)
+write-iinf-spec = tie.close (tie.spec (λ c κs. search needs) (λ c κs. search needs) (λ c κs. search needs) (λ c. search needs) write-given-infe-requires (λ c. search needs) write-given-infe-requires-2 (λ c. search needs) write-given-infe-requires-3 (λ c. search needs) returns)

@@ -27,17 +27,19 @@ write-ref-requires-2 c κs =
 
 returns : tie.Need-returns
 returns c =
-    let c4 = c .before .before in
-    let c3 = c4 .before .before .before .before .before in
-    let c2 = c3 .before .before .before in
-    let c1 = c2 .before .before in
+    let c5 = c .before .before in
+    let c4 = c5 .before .before .before .before .before in
+    let c3 = c4 .before .before .before in
+    let c2 = c3 .before in
+    let c1 = c2 .before in
     let i = c1 .before in
     let f = form-of (i .before .before .args .form) in
-    let image = c1 .gain-id .ensures .0 in
-    let grid = c2 .color-grid-id .ensures in
+    let image = c1 .gain-id .ensures in
+    let xmp = c2 .xmp-id .ensures in
+    let grid = c3 .color-grid-id .ensures in
     rw (i .if1 .taken)
     (retold
-    (retold (c3 .write-ref .ensures) (λ i. reference f "auxl" (image i) (grid i ∷ []) ∷ []) refl ▸ retold (c4 .write-ref2 .ensures) (λ i. reference f "cdsc" (image i + 1) (image i ∷ []) ∷ []) refl)
+    (retold (c4 .write-ref .ensures) (λ i. reference f "auxl" (image i) (grid i ∷ []) ∷ []) refl ▸ retold (c5 .write-ref2 .ensures) (λ i. reference f "cdsc" (xmp i) (image i ∷ []) ∷ []) refl)
     refl
     (omega arith))
 
@@ -46,4 +48,4 @@ returns-2 c =
     rw (c .if1 .left) no-boxes
 
 pub write-image-refs-spec : {M : Type 1} → statement M
-write-image-refs-spec = tie.close (tie.spec (λ c κs. search needs) (λ c. search needs) (λ c κs. search needs) write-ref-requires write-ref-requires-2 (λ c. search needs) returns returns-2)
+write-image-refs-spec = tie.close (tie.spec (λ c κs. search needs) (λ c κs. search needs) (λ c κs. search needs) write-ref-requires write-ref-requires-2 (λ c. search needs) returns returns-2)

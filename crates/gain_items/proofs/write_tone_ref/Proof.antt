@@ -19,17 +19,17 @@ write-dimg-pair-requires c κs =
 
 returns : tie.Need-returns
 returns c =
-    let c3 = c .before .before in
-    let c2 = c3 .before .before in
-    let c1 = c2 .before .before in
+    let c4 = c .before .before in
+    let c3 = c4 .before .before in
+    let c2 = c3 .before in
+    let c1 = c2 .before in
     let i = c1 .before in
     let f = form-of (i .before .before .args .form) in
-    let image = c1 .gain-id .ensures .0 in
-    rw (i .if1 .taken) (retold (c3 .write-dimg-pair .ensures) (λ i. reference f "dimg" (image i + 2) ((c2 .color-grid-id .ensures) i ∷ image i ∷ []) ∷ []) refl)
+    rw (i .if1 .taken) (retold (c4 .write-dimg-pair .ensures) (λ i. reference f "dimg" ((c1 .tmap-id .ensures .0) i) ((c2 .color-grid-id .ensures) i ∷ (c3 .gain-id .ensures) i ∷ []) ∷ []) refl)
 
 returns-2 : tie.Need-returns-2
 returns-2 c =
     rw (c .if1 .left) no-boxes
 
 pub write-tone-ref-spec : {M : Type 1} → statement M
-write-tone-ref-spec = tie.close (tie.spec (λ c κs. search needs) (λ c. search needs) (λ c κs. search needs) write-dimg-pair-requires (λ c. search needs) returns returns-2)
+write-tone-ref-spec = tie.close (tie.spec (λ c κs. search needs) (λ c κs. search needs) (λ c κs. search needs) write-dimg-pair-requires (λ c. search needs) returns returns-2)

@@ -15,7 +15,7 @@ use Rattle.panel.specs.declared.Shape.{Shape}
 use Rattle.length.specs.Size.{iinf-size}
 use Rattle.length.proofs.Items.{length-infes}
 use Rattle.boxes.proofs.Pictures.{pictures-joined}
-use Rattle.boxes.proofs.Widths.{raised}
+use Rattle.boxes.proofs.Forms.{raised}
 use Rattle.items.proofs.write_iinf.Statement.{statement}
 use Rattle.items.proofs.write_iinf.Tie as tie
 

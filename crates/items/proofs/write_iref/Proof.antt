@@ -10,7 +10,7 @@ use Rattle.panel.specs.Items.{Form}
 use Rattle.panel.specs.Forms.{form-of}
 use Rattle.panel.specs.declared.Shape.{Shape}
 use Rattle.length.specs.Size.{reference-size, iref-size}
-use Rattle.boxes.proofs.Widths.{raised}
+use Rattle.boxes.proofs.Forms.{raised}
 use Rattle.items.proofs.write_iref.Statement.{statement}
 use Rattle.items.proofs.write_iref.Tie as tie
 

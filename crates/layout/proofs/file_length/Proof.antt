@@ -1,4 +1,4 @@
--- One of the forms.
+-- What `form_length` answers in the ordinary form.
 use borrow.Author.Needs.{needs}
 use Rattle.panel.specs.Forms.{form-of}
 use Rattle.layout.proofs.file_length.Statement.{statement}

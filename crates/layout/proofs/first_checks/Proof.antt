@@ -80,7 +80,7 @@ returns-5 c =
       counts = rw (e, f) counts;
       sums = rw (e, f, g, h) sums;
       items = (c5 .shape-of .ensures) .0 l (ap length e);
-      last = sym (c6 .bad-items .ensures) ∙ c .if4 .left;
+      ids = sym (c6 .bad-items .ensures) ∙ c .if4 .left;
       few = rw ((c5 .shape-of .ensures) .1) (few (d .rows) (d .cols) (length (start .args .color-lengths .now)) (length (start .args .alpha-lengths .now)) sides counts);
     }
 

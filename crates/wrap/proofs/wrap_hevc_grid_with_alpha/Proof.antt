@@ -1,4 +1,4 @@
--- One of the forms.
+-- What `wrap_in_form` does in the ordinary form.
 use borrow.Author.Needs.{needs}
 use Rattle.panel.specs.Forms.{form-of}
 use Rattle.wrap.proofs.wrap_hevc_grid_with_alpha.Statement.{statement}

@@ -1,7 +1,7 @@
 -- The head and the id.
 use borrow.Author.Needs.{needs}
 use native.Mathlib.Omega.{arith}
-use Rattle.boxes.proofs.Widths.{raised}
+use Rattle.boxes.proofs.Forms.{raised}
 use Rattle.boxes.proofs.pitm.write_pitm.Statement.{statement}
 use Rattle.boxes.proofs.pitm.write_pitm.Tie as tie
 

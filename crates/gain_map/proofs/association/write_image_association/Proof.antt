@@ -35,7 +35,7 @@ returns c =
     let c1 = c2 .before .before in
     let i = c1 .before in
     let a = i .before .before .args in
-    rw (i .if1 .taken) (told ((c3 .write-association-head .ensures) ▹ (c4 .write-image-list .ensures)) (associated (form-of (a .form)) (image-list (a .p) (a .irot) (a .imir)) (c1 .gain-id .ensures .0) ((c2 .image-count .ensures) ∙ sym (length-image-list (a .p) (a .irot) (a .imir)))) refl)
+    rw (i .if1 .taken) (told ((c3 .write-association-head .ensures) ▹ (c4 .write-image-list .ensures)) (associated (form-of (a .form)) (image-list (a .p) (a .irot) (a .imir)) (c1 .gain-id .ensures) ((c2 .image-count .ensures) ∙ sym (length-image-list (a .p) (a .irot) (a .imir)))) refl)
 
 returns-2 : tie.Need-returns-2
 unfolding flatMap

@@ -17,15 +17,15 @@ use Rattle.gain_map.proofs.location.write_image_locations.Tie as tie
 returns : tie.Need-returns
 unfolding spans flatMap
 returns c =
-    let c3 = c .before .before in
-    let c2 = c3 .before .before .before .before in
-    let c1 = c2 .before .before .before in
+    let c4 = c .before .before in
+    let c3 = c4 .before .before .before .before in
+    let c2 = c3 .before .before in
+    let c1 = c2 .before in
     let a = c1 .before .before .args in
     let f = form-of (a .form) in
-    let image = c1 .gain-id .ensures .0 in
-    let first = told (c2 .write-location .ensures) (ap (λ (k : ℕ). entry f (location k 0 (a .offset) (a .sample))) image) refl in
-    let second = told (c3 .write-location2 .ensures) (ap (λ (k : ℕ). entry f (location k 0 (a .offset + a .sample) (a .xmp))) (ap (λ (k : ℕ). k + 1) image ∙ add-one _) ∙ sym (flatMap-one (entry f) (location (suc (gain-id (a .s))) 0 (a .offset + a .sample) (a .xmp)))) refl in
+    let first = told (c3 .write-location .ensures) (ap (λ (k : ℕ). entry f (location k 0 (a .offset) (a .sample))) (c1 .gain-id .ensures)) refl in
+    let second = told (c4 .write-location2 .ensures) (ap (λ (k : ℕ). entry f (location k 0 (a .offset + a .sample) (a .xmp))) (c2 .xmp-id .ensures ∙ add-one _) ∙ sym (flatMap-one (entry f) (location (suc (gain-id (a .s))) 0 (a .offset + a .sample) (a .xmp)))) refl in
     told (first ▹ second) refl (omega arith)
 
 pub write-image-locations-spec : {M : Type 1} → statement M
-write-image-locations-spec = tie.close (tie.spec (λ c κs. search needs) (λ c. search needs) (λ c κs. search needs) (λ c. search needs) (λ c κs. search needs) (λ c. search needs) returns)
+write-image-locations-spec = tie.close (tie.spec (λ c κs. search needs) (λ c κs. search needs) (λ c κs. search needs) (λ c. search needs) (λ c κs. search needs) (λ c. search needs) returns)

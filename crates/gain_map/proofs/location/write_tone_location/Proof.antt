@@ -16,7 +16,7 @@ use Rattle.gain_map.proofs.location.write_tone_location.Tie as tie
 
 write-location-requires : tie.Need-write-location-requires
 write-location-requires c κs =
-    let i = c .before .before .before in
+    let i = c .before .before in
     let start = i .before .before in
     omega (arith, start .pre .0, ap (λ (b : Bool). cond {A = ℕ} b (14 + form-of (start .args .form) .id) 0) (i .if1 .taken))
 
@@ -24,11 +24,11 @@ returns : tie.Need-returns
 unfolding spans flatMap
 returns c =
     let c2 = c .before .before in
-    let c1 = c2 .before .before .before in
+    let c1 = c2 .before .before in
     let i = c1 .before in
     let a = i .before .before .args in
     let f = form-of (a .form) in
-    rw (i .if1 .taken) (told (c2 .write-location .ensures) (ap (λ (k : ℕ). entry f (location (k + 2) 0 (a .offset) (a .size))) (c1 .gain-id .ensures .0) ∙ sym (flatMap-one (entry f) (location (gain-id (a .s) + 2) 0 (a .offset) (a .size)))) refl)
+    rw (i .if1 .taken) (told (c2 .write-location .ensures) (ap (λ (k : ℕ). entry f (location k 0 (a .offset) (a .size))) (c1 .tmap-id .ensures .0) ∙ sym (flatMap-one (entry f) (location (gain-id (a .s) + 2) 0 (a .offset) (a .size)))) refl)
 
 returns-2 : tie.Need-returns-2
 unfolding spans flatMap
@@ -36,4 +36,4 @@ returns-2 c =
     rw (c .if1 .left) nothing
 
 pub write-tone-location-spec : {M : Type 1} → statement M
-write-tone-location-spec = tie.close (tie.spec (λ c κs. search needs) (λ c. search needs) write-location-requires (λ c. search needs) returns returns-2)
+write-tone-location-spec = tie.close (tie.spec (λ c κs. search needs) write-location-requires (λ c. search needs) returns returns-2)

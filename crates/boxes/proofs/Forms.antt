@@ -10,7 +10,7 @@ use Rattle.octets.specs.Stores.{Wrote, Boxed}
 use Rattle.octets.proofs.Numbers.{be-mod}
 use Rattle.octets.proofs.Stores.{full-boxed, retold}
 
--- an id in 16 bits is written as the id
+-- the lower 16 bits of an id are what `be 2` writes of it
 pub narrowed : (n : ℕ) {i : ℕ} → i ≡ n % 65536 → be 2 i ≡ be 2 n
 narrowed n e = ap (be 2) e ∙ be-mod 0 2 n
 
