@@ -1,15 +1,13 @@
 -- Two entries with a gain map, and one with a tone map.
 use borrow.Author.Needs.{needs}
 use native.Mathlib.Omega.{arith}
-use mathlib.Core.Path.{_≡_, refl, ap}
+use mathlib.Core.Path.{_≡_, refl}
 use mathlib.Core.Bool.{Bool, true, false, cond}
 use mathlib.Core.List.{List, [], _∷_, _++_}
 use Prim.Native.Nat.{ℕ, _+_, _*_}
-use Rattle.octets.specs.Numbers.{_‖_, be, text}
 use Rattle.octets.proofs.Stores.{kept, retold, _▸_}
 use Rattle.panel.specs.Items.{given}
 use Rattle.panel.specs.Forms.{form-of}
-use Rattle.panel.specs.Iinf.{infe}
 use Rattle.gain_items.proofs.write_iinf.Statement.{statement}
 use Rattle.gain_items.proofs.write_iinf.Tie as tie
 
@@ -60,9 +58,9 @@ returns c =
     let start = c1 .before .before in
     let s = start .args .s in
     let f = form-of (start .args .form) in
-    let image = retold (c4 .write-given-infe .ensures) (ap (λ (k : ℕ). given (s .gain) (infe f 1 k "hvc1" [] ∷ [])) (c1 .gain-id .ensures)) refl in
-    let xmp = retold (c5 .write-given-infe2 .ensures) (ap (λ (k : ℕ). given (s .gain) (infe f 1 k "mime" (text "application/rdf+xml" ‖ be 1 0) ∷ [])) (c2 .xmp-id .ensures)) refl in
-    let tone = retold (c6 .write-given-infe3 .ensures) (ap (λ (k : ℕ). given (s .tone) (infe f 0 k "tmap" [] ∷ [])) (c3 .tmap-id .ensures .0)) refl in
+    let image = rw (c1 .gain-id .ensures) at (c4 .write-given-infe .ensures) in
+    let xmp = rw (c2 .xmp-id .ensures) at (c5 .write-given-infe2 .ensures) in
+    let tone = rw (c3 .tmap-id .ensures .0) at (c6 .write-given-infe3 .ensures) in
     retold (image ▸ xmp ▸ tone) (both (s .gain) _ _ _) (omega (arith, sizes (s .gain) (f .id), alone (s .tone) (f .id)))
 
 pub write-iinf-spec : {M : Type 1} → statement M

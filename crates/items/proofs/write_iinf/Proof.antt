@@ -3,12 +3,12 @@ use borrow.Author.Needs.{needs}
 use native.Mathlib.Omega.{arith}
 use mathlib.Core.Path.{_≡_, refl, sym, ap, _∙_}
 use mathlib.Core.Bool.{cond}
-use mathlib.Core.List.{[], _∷_}
+use mathlib.Core.List.{[]}
 use Prim.Native.Nat.{ℕ, _+_, _*_}
 use Rattle.octets.specs.Numbers.{be}
 use Rattle.octets.proofs.Lists.{cond-mul}
 use Rattle.octets.proofs.Stores.{_▹_, kept, told, retold, _▸_}
-use Rattle.panel.specs.Items.{Form, given, colour-grid, alpha-grid, alpha-tile}
+use Rattle.panel.specs.Items.{Form, colour-grid, alpha-grid, alpha-tile}
 use Rattle.panel.specs.Forms.{form-of}
 use Rattle.panel.specs.Iinf.{infe, tile-infes}
 use Rattle.panel.specs.declared.Shape.{Shape}
@@ -73,7 +73,7 @@ returns c =
     let start = c1 .before .before .before .before in
     let f = form-of (start .args .form) in
     let s = start .args .s in
-    let exif = retold (c7 .write-given-infe .ensures) (ap (λ (k : ℕ). given (s .exif) (infe f 0 k "Exif" [] ∷ [])) (c6 .exif-id .ensures)) refl in
+    let exif = rw (c6 .exif-id .ensures) at (c7 .write-given-infe .ensures) in
     let body = retold ((c4 .write-color-infes .ensures) ▸ (c5 .write-alpha-infes .ensures) ▸ exif ▸ (c8 .write-iinf .ensures)) (pictures-joined (tile-infes f 1 (s .tiles)) (tile-infes f (alpha-tile s) (s .tiles)) _ (infe f 0 (colour-grid s) "grid" []) (infe f 0 (alpha-grid s) "grid" [])) refl in
     let count = told (c3 .write-count .ensures) (ap (be (f .count)) ((c2 .last-id .ensures) .0 ∙ sym (length-infes f s))) refl in
     retold (raised "iinf" _ 0 (c1 .write-item-box .ensures) (count ▹ body .wrote) (start .pre .1 .1 ∙ sym (size-of f s))) refl (size-of f s)
