@@ -11,7 +11,7 @@ use Rattle.octets.proofs.Stores.{Owes, owes, turn, paid, kept}
 use Rattle.panel.specs.Items.{ids-from}
 
 -- one of n
-pub mul-step : (k n : ℕ) → 0 < n → k * n ≡ k + k * (n - 1)
+mul-step : (k n : ℕ) → 0 < n → k * n ≡ k + k * (n - 1)
 mul-step k zero h = absurd (omega arith)
 mul-step k (suc n) h = let e : suc n - 1 ≡ n = omega arith in rw e (omega (arith, mul-suc k n))
 

@@ -32,7 +32,8 @@ fn write_item_type(out: &mut [u8], at: usize, kind: &[u8; 4], content_type: &[u8
     put(out, c, content_type)
 }
 
-// An item's id and type, whether it is hidden, and of a mime item the content type with a zero byte behind it.
+// An item's id and type, whether it is hidden, and of a mime item the content type with a zero byte behind it. In every form the size fits in
+// 32 bits if it does with an id of four bytes.
 pub fn write_infe(
     out: &mut [u8],
     at: usize,

@@ -177,7 +177,6 @@ pub fn plan_of(
 }
 
 // The length of a panel's file in a form, or why it is refused.
-// Above 40 lines by its parameters, one to a line: each byte part is a slice of its own.
 pub fn form_length(
     form: FileForm,
     panel: Panel,
@@ -222,7 +221,6 @@ pub fn form_length(
 }
 
 // The length of a panel's file in the ordinary form, or why it is refused.
-// Above 40 lines by its parameters, one to a line: each byte part is a slice of its own.
 pub fn file_length(
     panel: Panel,
     color_hvcc: &[u8],

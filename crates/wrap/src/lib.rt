@@ -148,7 +148,6 @@ fn write_file(
 }
 
 // The file of a panel in a form, in the output, and its length; or why it is refused, and the output as it was.
-// Above 40 lines by its parameters, one to a line: each byte part is a slice of its own.
 pub fn wrap_in_form(
     form: FileForm,
     panel: Panel,
@@ -221,7 +220,6 @@ pub fn wrap_in_form(
 }
 
 // The file of a panel in the ordinary form, in the output, and its length; or why it is refused, and the output as it was.
-// Above 40 lines by its parameters, one to a line: each byte part is a slice of its own.
 pub fn wrap_hevc_grid_with_alpha(
     panel: Panel,
     color_hvcc: &[u8],
