@@ -34,15 +34,17 @@ length-places r = length-ids-from (r .first .0) (r .count)
 pub length-essential : (r : Run) → length (essential (places r)) ≡ r .count
 length-essential r = length-map (places r) (λ k. 128 + k) ∙ length-places r
 
--- how many positions three runs have
-count-three : (a b c : Run) → length (essential (places a) ‖ essential (places b) ‖ essential (places c)) ≡ a .count + (b .count + c .count)
+-- how many positions two runs have, and three
+pub count-two : (a b : Run) → a .count + b .count ≡ length (essential (places a) ‖ essential (places b))
+count-two a b = simp (length-append, length-essential)
+
+pub count-three : (a b c : Run) → a .count + (b .count + c .count) ≡ length (essential (places a) ‖ essential (places b) ‖ essential (places c))
 count-three a b c = simp (length-append, length-essential)
 
-pub three-associated : (f : Form) (id : ℕ) (a b c : Run)
-    → (be (f .id) id ‖ be 1 (a .count + (b .count + c .count))) ++ (essential (places a) ‖ essential (places b) ‖ essential (places c))
-    ≡ association f (id with essential (places a) ‖ essential (places b) ‖ essential (places c))
-three-associated f id a b c = append-assoc (be (f .id) id) _ _ ∙ ap (λ (k : ℕ). be (f .id) id ‖ be 1 k ‖ essential (places a) ‖ essential (places b) ‖ essential (places c)) (sym (count-three a b c))
+-- an entry of ipma: the id, the count and the associations
+pub counted : (f : Form) (id : ℕ) {count : ℕ} (l : List ℕ) → count ≡ length l → (be (f .id) id ‖ be 1 count) ++ l ≡ association f (id with l)
+counted f id {count} l k = append-assoc (be (f .id) id) (be 1 count) l ∙ ap (λ (m : ℕ). be (f .id) id ‖ be 1 m ‖ l) k
 
--- one entry of ipma
+-- a list of one entry
 pub associated : (f : Form) {id count j : ℕ} (l : List ℕ) → id ≡ j → count ≡ length l → (be (f .id) id ‖ be 1 count) ++ l ≡ flatMap (association f) ((j with l) ∷ [])
-associated f {id} {count} {j} l h k = append-assoc (be (f .id) id) (be 1 count) l ∙ (λ i. be (f .id) (h i) ‖ be 1 (k i) ‖ l) ∙ sym (flatMap-one (association f) (j with l))
+associated f {id} {count} {j} l h k = ap (λ (m : ℕ). (be (f .id) m ‖ be 1 count) ++ l) h ∙ counted f j l k ∙ sym (flatMap-one (association f) (j with l))

@@ -102,8 +102,8 @@ pub fn write_association_head(
     }
 }
 
-// A tile's entry: three roles, all essential.
-pub fn write_tile_association(
+// A colour tile's entry: three roles, all essential.
+fn write_color_tile_association(
     out: &mut [u8],
     at: usize,
     form: FileForm,
@@ -113,7 +113,6 @@ pub fn write_tile_association(
     three: Run,
 ) -> usize
     requires { ⌜ at + (form-of form .id + 1 + (one .count + (two .count + three .count))) ≤ length (now out) ⌝ }
-    requires { ⌜ one .count + (two .count + three .count) ≤ 255 ⌝ }
     requires { ⌜ Fitting one ⌝ }
     requires { ⌜ Fitting two ⌝ }
     requires { ⌜ Fitting three ⌝ }
@@ -123,8 +122,8 @@ pub fn write_tile_association(
     write_runs(out, a, one, two, three, true)
 }
 
-// The entries of n tiles from `first` on.
-pub fn write_tile_associations(
+// The entries of n colour tiles from `first` on.
+pub fn write_color_tile_associations(
     out: &mut [u8],
     at: usize,
     form: FileForm,
@@ -136,7 +135,6 @@ pub fn write_tile_associations(
 ) -> usize
     requires { ⌜ at + (form-of form .id + 1 + (one .count + (two .count + three .count))) * n ≤ length (now out) ⌝ }
     requires { ⌜ first .0 + n < 4294967296 ⌝ }
-    requires { ⌜ one .count + (two .count + three .count) ≤ 255 ⌝ }
     requires { ⌜ Fitting one ⌝ }
     requires { ⌜ Fitting two ⌝ }
     requires { ⌜ Fitting three ⌝ }
@@ -146,7 +144,53 @@ pub fn write_tile_associations(
     let mut a = at;
     let mut id = first.0;
     while 0 < left {
-        a = write_tile_association(out, a, form, WideItemId(id), one, two, three);
+        a = write_color_tile_association(out, a, form, WideItemId(id), one, two, three);
+        id += 1;
+        left -= 1;
+    }
+    a
+}
+
+// An alpha tile's entry: two roles, both essential.
+fn write_alpha_tile_association(
+    out: &mut [u8],
+    at: usize,
+    form: FileForm,
+    id: WideItemId,
+    one: Run,
+    two: Run,
+) -> usize
+    requires { ⌜ at + (form-of form .id + 1 + (one .count + two .count)) ≤ length (now out) ⌝ }
+    requires { ⌜ Fitting one ⌝ }
+    requires { ⌜ Fitting two ⌝ }
+    ensures { λ r. ⌜ Wrote (now (out .entry)) at (form-of form .id + 1 + (one .count + two .count)) (association (form-of form) (id .0 with essential (places one) ‖ essential (places two))) (now (out .exit)) r ⌝ }
+{
+    let a = write_association_head(out, at, form, id, one.count + two.count);
+    let b = write_run(out, a, one, true);
+    write_run(out, b, two, true)
+}
+
+// The entries of n alpha tiles from `first` on.
+pub fn write_alpha_tile_associations(
+    out: &mut [u8],
+    at: usize,
+    form: FileForm,
+    first: WideItemId,
+    n: u32,
+    one: Run,
+    two: Run,
+) -> usize
+    requires { ⌜ at + (form-of form .id + 1 + (one .count + two .count)) * n ≤ length (now out) ⌝ }
+    requires { ⌜ first .0 + n < 4294967296 ⌝ }
+    requires { ⌜ Fitting one ⌝ }
+    requires { ⌜ Fitting two ⌝ }
+    ensures { λ r. ⌜ Wrote (now (out .entry)) at ((form-of form .id + 1 + (one .count + two .count)) * n) (flatMap (association (form-of form)) (each (first .0) n (essential (places one) ‖ essential (places two)))) (now (out .exit)) r ⌝ }
+{
+    let mut left = n;
+    let mut a = at;
+    let mut id = first.0;
+    while 0 < left {
+        a = write_alpha_tile_association(out, a, form, WideItemId(id), one, two);
         id += 1;
         left -= 1;
     }

@@ -18,12 +18,12 @@ use boxes::association::write_run;
 use boxes::association::write_runs;
 use boxes::ids::gain_id;
 use boxes::ids::tmap_id;
+use gain_positions::ImagePlaces;
+use gain_positions::TonePlaces;
 use panel::FileForm;
 use panel::Shape;
 use places::associations::image_count;
 use places::associations::tone_count;
-use places::positions::ImagePlaces;
-use places::positions::TonePlaces;
 
 // The gain image's properties and transforms, without the head of the entry.
 fn write_image_list(out: &mut [u8], at: usize, p: ImagePlaces, irot: Run, imir: Run) -> usize

@@ -1,14 +1,26 @@
--- The next free property position behind the gain map's properties.
+-- The positions of the gain map's properties, and the next free one behind them.
 use Prim.Native.Nat.{ℕ, _+_}
+use Rattle.boxes.specs.declared.association.Run.{Run}
+use Rattle.gain_positions.specs.declared.ImagePlaces.{ImagePlaces}
+use Rattle.gain_positions.specs.declared.TonePlaces.{TonePlaces}
 
--- hvcC, ispe, pixi, auxC and colr of the gain image, k boxes of each from n on
+-- so many positions from `first` on
+abbrev pub run-at : ℕ → ℕ → Run
+run-at first count = record { first = record { 0 = first }; count = count }
+
+-- ---- hvcC, ispe, pixi, auxC and colr of the gain image, k boxes of each from n on
+
+abbrev pub image-at : ℕ → ℕ → ImagePlaces
+image-at n k =
+    record { hvcc = run-at n k; ispe = run-at (n + k) k; pixi = run-at (n + k + k) k; auxc = run-at (n + k + k + k) k; colr = run-at (n + k + k + k + k) k }
+
 abbrev pub behind-image : ℕ → ℕ → ℕ
 behind-image n k = n + k + k + k + k + k
 
--- ispe and pixi of the tone map, k boxes of each from n on, and so many alternate colr
+-- ---- ispe and pixi of the tone map, k boxes of each from n on, and so many alternate colr
+
+abbrev pub tone-at : ℕ → ℕ → ℕ → TonePlaces
+tone-at n k alternates = record { ispe = run-at n k; pixi = run-at (n + k) k; colr = run-at (n + k + k) alternates }
+
 abbrev pub behind-tone : ℕ → ℕ → ℕ → ℕ
 behind-tone n k alternates = n + k + k + alternates
-
--- both, one behind the other
-abbrev pub behind-gain : ℕ → ℕ → ℕ → ℕ → ℕ
-behind-gain n image tone alternates = behind-tone (behind-image n image) tone alternates

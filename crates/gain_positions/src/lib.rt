@@ -1,7 +1,9 @@
-// The next free property position: a record that is lent to what places the gain map's properties, and is raised there.
+// The next free property position, a record that runs through all properties; and the positions of the gain map's, by value: each function
+// takes the record and hands it back raised behind what it placed.
 ghost use mathlib.Core.Path.{_≡_};
-ghost use Prim.Native.Nat.{_+_, _≤_};
-ghost use Rattle.gain_positions.specs.Positions.{behind-image, behind-tone, behind-gain};
+ghost use Prim.Native.Nat.{_≤_};
+ghost use Rattle.gain_positions.specs.Positions.{behind-image, behind-tone, image-at, tone-at};
+use boxes::association::Run;
 use panel::PropertyPosition;
 
 // The next free position.
@@ -9,63 +11,73 @@ pub struct Positions {
     pub next: PropertyPosition,
 }
 
-// Where the gain image's properties begin, and where the tone map's do.
-pub struct GainPositions {
-    pub image: PropertyPosition,
-    pub tone: PropertyPosition,
+// The positions of the gain image's properties.
+pub struct ImagePlaces {
+    pub hvcc: Run,
+    pub ispe: Run,
+    pub pixi: Run,
+    pub auxc: Run,
+    pub colr: Run,
 }
 
-// The same, and the next free position behind both.
-pub struct PlacedGain {
-    pub image: PropertyPosition,
-    pub tone: PropertyPosition,
-    pub next: PropertyPosition,
+// The positions of the tone map's properties.
+pub struct TonePlaces {
+    pub ispe: Run,
+    pub pixi: Run,
+    pub colr: Run,
 }
 
-// The next free position behind the gain image's properties, with so many boxes of each of its five kinds.
-pub fn image_raised(next: u8, each: u8) -> u8
-    requires { ⌜ behind-image next each ≤ 127 ⌝ }
-    ensures { λ r. ⌜ r ≡ behind-image next each ⌝ }
+pub struct PlacedImage {
+    pub places: ImagePlaces,
+    pub positions: Positions,
+}
+
+pub struct PlacedTone {
+    pub places: TonePlaces,
+    pub positions: Positions,
+}
+
+// The gain image's positions, with k boxes of each kind: one where there is a gain map, else none.
+pub fn image_places(positions: Positions, k: u8) -> PlacedImage
+    requires { ⌜ behind-image (positions .next .0) k ≤ 127 ⌝ }
+    ensures { λ r. ⌜ (r .places ≡ image-at (positions .next .0) k) × (r .positions .next .0 ≡ behind-image (positions .next .0) k) ⌝ }
 {
-    next + each + each + each + each + each
-}
-
-// The next free position behind the tone map's properties, with so many boxes of its two kinds and so many alternate colours.
-pub fn tone_raised(next: u8, each: u8, alternates: u8) -> u8
-    requires { ⌜ behind-tone next each alternates ≤ 127 ⌝ }
-    ensures { λ r. ⌜ r ≡ behind-tone next each alternates ⌝ }
-{
-    next + each + each + alternates
-}
-
-// Places the gain map's properties from the record that it is lent, and raises the record behind them.
-pub fn place_gain(positions: &mut Positions, image: u8, tone: u8, alternates: u8) -> GainPositions
-    requires { ⌜ behind-gain (now positions .next .0) image tone alternates ≤ 127 ⌝ }
-    ensures { λ r. ⌜ (r .image .0 ≡ now (positions .entry) .next .0)
-        × (r .tone .0 ≡ behind-image (now (positions .entry) .next .0) image)
-        × (now (positions .exit) .next .0 ≡ behind-gain (now (positions .entry) .next .0) image tone alternates) ⌝ }
-{
-    let first = positions.next.0;
-    let second = image_raised(first, image);
-    positions.next.0 = tone_raised(second, tone, alternates);
-    GainPositions {
-        image: PropertyPosition(first),
-        tone: PropertyPosition(second),
+    let a = positions.next;
+    let b = PropertyPosition(a.0 + k);
+    let c = PropertyPosition(b.0 + k);
+    let d = PropertyPosition(c.0 + k);
+    let e = PropertyPosition(d.0 + k);
+    let next = PropertyPosition(e.0 + k);
+    PlacedImage {
+        places: ImagePlaces {
+            hvcc: Run { first: a, count: k },
+            ispe: Run { first: b, count: k },
+            pixi: Run { first: c, count: k },
+            auxc: Run { first: d, count: k },
+            colr: Run { first: e, count: k },
+        },
+        positions: Positions { next },
     }
 }
 
-// The positions of the gain map's properties from `next` on: the record is made here and lent.
-pub fn gain_from(next: PropertyPosition, image: u8, tone: u8, alternates: u8) -> PlacedGain
-    requires { ⌜ behind-gain (next .0) image tone alternates ≤ 127 ⌝ }
-    ensures { λ r. ⌜ (r .image .0 ≡ next .0)
-        × (r .tone .0 ≡ behind-image (next .0) image)
-        × (r .next .0 ≡ behind-gain (next .0) image tone alternates) ⌝ }
+// The tone map's positions, with k boxes of each kind and so many alternate colours.
+pub fn tone_places(positions: Positions, k: u8, alternates: u8) -> PlacedTone
+    requires { ⌜ behind-tone (positions .next .0) k alternates ≤ 127 ⌝ }
+    ensures { λ r. ⌜ (r .places ≡ tone-at (positions .next .0) k alternates) × (r .positions .next .0 ≡ behind-tone (positions .next .0) k alternates) ⌝ }
 {
-    let mut positions = Positions { next: next };
-    let placed = place_gain(&mut positions, image, tone, alternates);
-    PlacedGain {
-        image: placed.image,
-        tone: placed.tone,
-        next: positions.next,
+    let a = positions.next;
+    let b = PropertyPosition(a.0 + k);
+    let c = PropertyPosition(b.0 + k);
+    let next = PropertyPosition(c.0 + alternates);
+    PlacedTone {
+        places: TonePlaces {
+            ispe: Run { first: a, count: k },
+            pixi: Run { first: b, count: k },
+            colr: Run {
+                first: c,
+                count: alternates,
+            },
+        },
+        positions: Positions { next },
     }
 }

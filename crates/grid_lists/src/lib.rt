@@ -2,15 +2,16 @@
 ghost use Prim.Native.Nat.{_+_, _≤_};
 ghost use lib.ListN.{length};
 ghost use Rattle.octets.specs.Stores.{Wrote};
-ghost use Rattle.boxes.specs.Runs.{Fitting};
-ghost use Rattle.places.specs.Places.{Options-fit};
-ghost use Rattle.places.specs.Counts.{option-count, grid-count};
-ghost use Rattle.places.specs.Lists.{option-list, grid-list};
-use boxes::association::Run;
+ghost use Rattle.places.specs.Places.{Color-fits, Alpha-fits, Options-fit};
+ghost use Rattle.places.specs.Counts.{option-count, color-grid-count, alpha-grid-count};
+ghost use Rattle.places.specs.Lists.{option-list, color-grid-list, alpha-grid-list};
 use boxes::association::write_run;
+use boxes::association::write_runs;
+use places::pictures::AlphaPlaces;
+use places::pictures::ColorPlaces;
 use places::pictures::OptionPlaces;
 
-// A grid's properties that may be absent: the second colr, clli and the transforms, which come last and are essential.
+// The colour grid's properties that may be absent: the second colr, clli and the transforms, which come last and are essential.
 fn write_option_list(out: &mut [u8], at: usize, o: OptionPlaces) -> usize
     requires { ⌜ at + option-count o ≤ length (now out) ⌝ }
     requires { ⌜ Options-fit o ⌝ }
@@ -26,25 +27,42 @@ fn write_option_list(out: &mut [u8], at: usize, o: OptionPlaces) -> usize
     write_run(out, c, imir, true)
 }
 
-// A grid's properties: ispe, two roles of its own, of which the first may be essential, and those that may be absent.
-pub fn write_grid_list(
+// The colour grid's properties: ispe, colr, which is essential, pixi, and those that may be absent.
+pub fn write_color_grid_list(out: &mut [u8], at: usize, c: ColorPlaces, o: OptionPlaces) -> usize
+    requires { ⌜ at + color-grid-count c o ≤ length (now out) ⌝ }
+    requires { ⌜ Color-fits c ⌝ }
+    requires { ⌜ Options-fit o ⌝ }
+    ensures { λ r. ⌜ Wrote (now (out .entry)) at (color-grid-count c o) (color-grid-list c o) (now (out .exit)) r ⌝ }
+{
+    let full = c.ispe_full;
+    let colr = c.colr;
+    let pixi = c.pixi;
+    let a = write_run(out, at, full, false);
+    let b = write_run(out, a, colr, true);
+    let d = write_run(out, b, pixi, false);
+    write_option_list(out, d, o)
+}
+
+// The alpha grid's properties: ispe, pixi, auxC, and of those that may be absent the transforms.
+pub fn write_alpha_grid_list(
     out: &mut [u8],
     at: usize,
-    full: Run,
-    two: Run,
-    is_essential: bool,
-    three: Run,
+    c: ColorPlaces,
+    a: AlphaPlaces,
     o: OptionPlaces,
 ) -> usize
-    requires { ⌜ at + grid-count full two three o ≤ length (now out) ⌝ }
-    requires { ⌜ Fitting full ⌝ }
-    requires { ⌜ Fitting two ⌝ }
-    requires { ⌜ Fitting three ⌝ }
+    requires { ⌜ at + alpha-grid-count c a o ≤ length (now out) ⌝ }
+    requires { ⌜ Color-fits c ⌝ }
+    requires { ⌜ Alpha-fits a ⌝ }
     requires { ⌜ Options-fit o ⌝ }
-    ensures { λ r. ⌜ Wrote (now (out .entry)) at (grid-count full two three o) (grid-list full two «is_essential» three o) (now (out .exit)) r ⌝ }
+    ensures { λ r. ⌜ Wrote (now (out .entry)) at (alpha-grid-count c a o) (alpha-grid-list c a o) (now (out .exit)) r ⌝ }
 {
-    let a = write_run(out, at, full, false);
-    let b = write_run(out, a, two, is_essential);
-    let c = write_run(out, b, three, false);
-    write_option_list(out, c, o)
+    let full = c.ispe_full;
+    let pixi = a.pixi;
+    let auxc = a.auxc;
+    let irot = o.irot;
+    let imir = o.imir;
+    let b = write_runs(out, at, full, pixi, auxc, false);
+    let d = write_run(out, b, irot, true);
+    write_run(out, d, imir, true)
 }

@@ -5,54 +5,32 @@ ghost use Prim.Native.Nat.{_+_, _≤_};
 ghost use lib.ListN.{length};
 ghost use Rattle.octets.specs.Stores.{Wrote, Boxed};
 ghost use Rattle.panel.specs.Forms.{form-of};
-ghost use Rattle.panel.specs.Ipma.{_with_, association, associations, ipma};
+ghost use Rattle.panel.specs.Ipma.{association, associations, ipma};
 ghost use Rattle.length.specs.Properties.{pictures};
 ghost use Rattle.places.specs.Roles.{its-of, Fit};
-ghost use Rattle.places.specs.Counts.{ipma-bytes, grid-count, color-entries-size, alpha-entries-size};
-ghost use Rattle.boxes.specs.Runs.{Fitting, Shaped};
+ghost use Rattle.places.specs.Counts.{ipma-bytes, color-entries-size, alpha-entries-size};
+ghost use Rattle.boxes.specs.Runs.{Shaped};
 ghost use Rattle.places.specs.Places.{Color-fits, Alpha-fits, Options-fit};
-ghost use Rattle.places.specs.Lists.{grid-list, color-entries, alpha-entries};
-use boxes::association::Run;
+ghost use Rattle.places.specs.Lists.{color-entries, alpha-entries};
+use boxes::association::write_alpha_tile_associations;
 use boxes::association::write_association_head;
-use boxes::association::write_tile_associations;
+use boxes::association::write_color_tile_associations;
 use boxes::form::write_item_box;
 use boxes::ids::alpha_grid_id;
 use boxes::ids::alpha_tile_base;
 use boxes::ids::color_grid_id;
-use grid_lists::write_grid_list;
+use grid_lists::write_alpha_grid_list;
+use grid_lists::write_color_grid_list;
 use octets::w32;
 use panel::FileForm;
 use panel::Shape;
 use panel::WideItemId;
 use places::Places;
-use places::associations::grid_count;
+use places::associations::alpha_grid_count;
+use places::associations::color_grid_count;
 use places::pictures::AlphaPlaces;
 use places::pictures::ColorPlaces;
 use places::pictures::OptionPlaces;
-use places::pictures::turns_of;
-
-// A grid's entry: ispe, two roles of its own, of which the first may be essential, and those that may be absent.
-fn write_grid_association(
-    out: &mut [u8],
-    at: usize,
-    form: FileForm,
-    id: WideItemId,
-    full: Run,
-    two: Run,
-    is_essential: bool,
-    three: Run,
-    o: OptionPlaces,
-) -> usize
-    requires { ⌜ at + (form-of form .id + 1 + grid-count full two three o) ≤ length (now out) ⌝ }
-    requires { ⌜ Fitting full ⌝ }
-    requires { ⌜ Fitting two ⌝ }
-    requires { ⌜ Fitting three ⌝ }
-    requires { ⌜ Options-fit o ⌝ }
-    ensures { λ r. ⌜ Wrote (now (out .entry)) at (form-of form .id + 1 + grid-count full two three o) (flatMap (association (form-of form)) ((id .0 with grid-list full two «is_essential» three o) ∷ [])) (now (out .exit)) r ⌝ }
-{
-    let a = write_association_head(out, at, form, id, grid_count(full, two, three, o));
-    write_grid_list(out, a, full, two, is_essential, three, o)
-}
 
 // The entries of the colour picture: its tiles with hvcC, ispe and colr, all essential, and its grid.
 fn write_color_associations(
@@ -71,15 +49,15 @@ fn write_color_associations(
 {
     let hvcc = c.hvcc;
     let tile = c.ispe_tile;
-    let full = c.ispe_full;
     let colr = c.colr;
-    let pixi = c.pixi;
     let grid = color_grid_id(s);
-    let a = write_tile_associations(out, at, form, WideItemId(1), s.tiles, hvcc, tile, colr);
-    write_grid_association(out, a, form, grid, full, colr, true, pixi, o)
+    let count = color_grid_count(c, o);
+    let a = write_color_tile_associations(out, at, form, WideItemId(1), s.tiles, hvcc, tile, colr);
+    let b = write_association_head(out, a, form, grid, count);
+    write_color_grid_list(out, b, c, o)
 }
 
-// The entries of the alpha picture: its tiles with hvcC and ispe, both essential, and its grid, for which o has the transforms alone.
+// The entries of the alpha picture: its tiles with hvcC and ispe, both essential, and its grid.
 fn write_alpha_associations(
     out: &mut [u8],
     at: usize,
@@ -97,19 +75,13 @@ fn write_alpha_associations(
     ensures { λ r. ⌜ Wrote (now (out .entry)) at (alpha-entries-size (form-of form) s c a o) (flatMap (association (form-of form)) (alpha-entries s c a o)) (now (out .exit)) r ⌝ }
 {
     let hvcc = a.hvcc;
-    let pixi = a.pixi;
-    let auxc = a.auxc;
     let tile = c.ispe_tile;
-    let full = c.ispe_full;
-    let behind = tile.first;
-    let none = Run {
-        first: behind,
-        count: 0,
-    };
     let first = alpha_tile_base(s);
     let grid = alpha_grid_id(s);
-    let b = write_tile_associations(out, at, form, first, s.tiles, hvcc, tile, none);
-    write_grid_association(out, b, form, grid, full, pixi, false, auxc, o)
+    let count = alpha_grid_count(c, a, o);
+    let b = write_alpha_tile_associations(out, at, form, first, s.tiles, hvcc, tile);
+    let d = write_association_head(out, b, form, grid, count);
+    write_alpha_grid_list(out, d, c, a, o)
 }
 
 // ipma, with so many entries.
@@ -136,10 +108,9 @@ pub fn write_ipma(
     let tone = y.tone;
     let irot = options.irot;
     let imir = options.imir;
-    let turns = turns_of(options);
     let a = write_item_box(out, at, form, size, b"ipma", 0, 0);
     let b = w32(out, a, count);
     let c = write_color_associations(out, b, form, s, color, options);
-    let d = write_alpha_associations(out, c, form, s, color, alpha, turns);
+    let d = write_alpha_associations(out, c, form, s, color, alpha, options);
     gain_map::association::write_ipma(out, d, form, s, image, tone, irot, imir)
 }

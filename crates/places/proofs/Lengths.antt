@@ -1,22 +1,21 @@
 -- How many associations each item has: as many as its runs have positions.
 use mathlib.Core.Path.{_≡_}
-use mathlib.Core.Bool.{Bool, true, false}
 use lib.ListN.{length, length-append}
-use Rattle.boxes.specs.Runs.{places, marked}
 use Rattle.boxes.specs.declared.association.Run.{Run}
 use Rattle.boxes.proofs.Marks.{length-places, length-essential}
-use Rattle.places.specs.Counts.{grid-count, image-count, tone-count}
-use Rattle.places.specs.Lists.{grid-list, image-list, tone-list}
+use Rattle.places.specs.Counts.{color-grid-count, alpha-grid-count, image-count, tone-count}
+use Rattle.places.specs.Lists.{color-grid-list, alpha-grid-list, image-list, tone-list}
+use Rattle.places.specs.declared.pictures.ColorPlaces.{ColorPlaces}
+use Rattle.places.specs.declared.pictures.AlphaPlaces.{AlphaPlaces}
 use Rattle.places.specs.declared.pictures.OptionPlaces.{OptionPlaces}
-use Rattle.places.specs.declared.positions.ImagePlaces.{ImagePlaces}
-use Rattle.places.specs.declared.positions.TonePlaces.{TonePlaces}
+use Rattle.gain_positions.specs.declared.ImagePlaces.{ImagePlaces}
+use Rattle.gain_positions.specs.declared.TonePlaces.{TonePlaces}
 
-length-marked : (e : Bool) (r : Run) → length (marked e (places r)) ≡ r .count
-length-marked true r = length-essential r
-length-marked false r = length-places r
+pub length-color-grid-list : (c : ColorPlaces) (o : OptionPlaces) → length (color-grid-list c o) ≡ color-grid-count c o
+length-color-grid-list c o = simp (length-append, length-essential, length-places)
 
-pub length-grid-list : (full two : Run) (e : Bool) (three : Run) (o : OptionPlaces) → length (grid-list full two e three o) ≡ grid-count full two three o
-length-grid-list full two e three o = simp (length-append, length-essential, length-marked, length-places)
+pub length-alpha-grid-list : (c : ColorPlaces) (a : AlphaPlaces) (o : OptionPlaces) → length (alpha-grid-list c a o) ≡ alpha-grid-count c a o
+length-alpha-grid-list c a o = simp (length-append, length-essential, length-places)
 
 pub length-image-list : (p : ImagePlaces) (irot imir : Run) → length (image-list p irot imir) ≡ image-count p irot imir
 length-image-list p irot imir = simp (length-append, length-essential, length-places)

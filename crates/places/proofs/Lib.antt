@@ -1,3 +1,4 @@
+pub mod Machine
 pub mod Roles
 pub mod Lengths
 pub mod Entries

@@ -3,11 +3,11 @@ use mathlib.Core.Path.{_≡_, refl, sym, ap, _∙_}
 use mathlib.Core.Bool.{cond}
 use mathlib.Core.Option.{Option, none, some}
 use mathlib.Core.List.{List}
-use Prim.Native.Nat.{ℕ, _+_, _≤_}
+use Prim.Native.Nat.{ℕ, _+_, _≤_, max}
 use native.Mathlib.Omega.{arith}
-use lib.ListN.{length}
+use lib.ListN.{length, length-append}
 use Rattle.octets.specs.Boxes.{Box, optional}
-use Rattle.panel.specs.Types.{irot-steps, imir-axis}
+use Rattle.panel.specs.Types.{bits, irot-steps, imir-axis}
 use Rattle.panel.specs.Panel.{Colour, Gain, Panel}
 use Rattle.panel.specs.Items.{has, tone-of, shape, ids-from}
 use Rattle.panel.specs.Ipco
@@ -17,9 +17,10 @@ use Rattle.panel.specs.declared.color.Cicp.{Cicp}
 use Rattle.panel.specs.declared.metadata.ContentLightLevel.{ContentLightLevel}
 use Rattle.length.specs.Properties.{second-colr-count, alternates-count, irot-count, imir-count}
 use Rattle.length.proofs.Properties.{length-optional}
-use Rattle.places.specs.Places.{image-at, tone-at, Image-fits, Tone-fits, color-at, alpha-at, options-at, Color-fits, Alpha-fits, Options-fit}
-use Rattle.places.specs.declared.positions.ImagePlaces.{ImagePlaces}
-use Rattle.places.specs.declared.positions.TonePlaces.{TonePlaces}
+use Rattle.places.specs.Places.{Image-fits, Tone-fits, color-at, alpha-at, options-at, Color-fits, Alpha-fits, Options-fit}
+use Rattle.gain_positions.specs.Positions.{image-at, tone-at, behind-image}
+use Rattle.gain_positions.specs.declared.ImagePlaces.{ImagePlaces}
+use Rattle.gain_positions.specs.declared.TonePlaces.{TonePlaces}
 use Rattle.places.specs.declared.pictures.ColorPlaces.{ColorPlaces}
 use Rattle.places.specs.declared.pictures.AlphaPlaces.{AlphaPlaces}
 use Rattle.places.specs.declared.pictures.OptionPlaces.{OptionPlaces}
@@ -31,7 +32,7 @@ use Rattle.places.specs.declared.Places.{Places}
 abbrev pub laid : ℕ → ℕ → ℕ → ℕ → ℕ → ℕ → ℕ → Places
 laid c r m l g t a =
     let n = 9 + c + r + m + l in
-    record { color = color-at 1 1; alpha = alpha-at 6 1; options = options-at 9 c r m l; image = image-at n g; tone = tone-at (n + g + g + g + g + g) t a }
+    record { color = color-at 1 1; alpha = alpha-at 6 1; options = options-at 9 c r m l; image = image-at n g; tone = tone-at (behind-image n g) t a; count = 8 + c + r + m + l + g + g + g + g + g + t + t + a }
 
 -- how many boxes the definition has of each
 abbrev pub second-colrs : Panel → ℕ
@@ -107,11 +108,30 @@ in-role p (some g) Ipco.pixi-tone = pixi-toned _ _ _ (g .tone) (g .alternate)
 in-role p none Ipco.colr-tone = refl
 in-role p (some g) Ipco.colr-tone = colr-toned _ _ _ (g .tone) (g .alternate)
 
+-- ---- how many
+
+tone-counted : (size depth : Box) (t : Option (List ℕ)) (a : Option Colour)
+    → length (Ipco.held (Ipco.tone-slots size depth t a)) ≡ cond (has t) 1 0 + cond (has t) 1 0 + cond (has t) (length (Ipco.alternates a)) 0
+tone-counted size depth none a = refl
+tone-counted size depth (some t) a = simp length-append (omega arith)
+
+gain-counted : (size depth : Box) (g : Option Gain) → let k = cond {A = ℕ} (has g) 1 0 in let t = cond {A = ℕ} (has (tone-of g)) 1 0 in
+    length (Ipco.held (Ipco.gain-slots size depth g)) ≡ k + k + k + k + k + t + t + alternate-colrs g
+gain-counted size depth none = refl
+gain-counted size depth (some g) = omega (arith, tone-counted size depth (g .tone) (g .alternate))
+
+in-all : (p : Panel) → let k = cond {A = ℕ} (has (p .gain)) 1 0 in let t = cond {A = ℕ} (has (tone-of (p .gain))) 1 0 in
+    8 + second-colrs p + irots p + imirs p + cllis p + k + k + k + k + k + t + t + alternate-colrs (p .gain) ≡ length (Ipco.properties p)
+in-all p = simp length-append (omega (arith, gain-counted (Ipco.tone-ispe (p .dims) (p .metadata .orientation)) (Ipco.pixi 3 (max (bits (p .depth)) 10)) (p .gain)))
+
 -- with so many of each as the definition has
 pub placed : (p : Panel) {c r m l g t a : ℕ} → c ≡ second-colrs p → r ≡ irots p → m ≡ imirs p → l ≡ cllis p → g ≡ cond (has (p .gain)) 1 0
     → t ≡ cond (has (tone-of (p .gain))) 1 0 → a ≡ alternate-colrs (p .gain) → Placed p (laid c r m l g t a)
 placed p hc hr hm hl hg ht ha =
-    record { role = λ x. ap (λ (y : Places). its-of y x) (λ i. laid (hc i) (hr i) (hm i) (hl i) (hg i) (ht i) (ha i)) ∙ in-role p (p .gain) x }
+    record {
+      count = ap (λ (y : Places). y .count) (λ i. laid (hc i) (hr i) (hm i) (hl i) (hg i) (ht i) (ha i)) ∙ in-all p;
+      role = λ x. ap (λ (y : Places). its-of y x) (λ i. laid (hc i) (hr i) (hm i) (hl i) (hg i) (ht i) (ha i)) ∙ in-role p (p .gain) x;
+    }
 
 -- ---- the counts as the code has them
 
@@ -160,7 +180,7 @@ placed-of p s y hs hy =
     (ap (λ (x : Shape). cond {A = ℕ} (x .gain) 1 0) hs)
     (ap (λ (x : Shape). cond {A = ℕ} (x .tone) 1 0) hs)
     (length-toned (p .gain)) in
-    record { role = λ r. ap (λ (z : Places). its-of z r) hy ∙ b .role r }
+    record { count = ap (λ (z : Places). z .count) hy ∙ b .count; role = λ r. ap (λ (z : Places). its-of z r) hy ∙ b .role r }
 
 -- ---- they fit
 

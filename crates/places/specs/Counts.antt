@@ -7,18 +7,20 @@ use Rattle.boxes.specs.declared.association.Run.{Run}
 use Rattle.places.specs.declared.pictures.ColorPlaces.{ColorPlaces}
 use Rattle.places.specs.declared.pictures.AlphaPlaces.{AlphaPlaces}
 use Rattle.places.specs.declared.pictures.OptionPlaces.{OptionPlaces}
-use Rattle.places.specs.declared.positions.ImagePlaces.{ImagePlaces}
-use Rattle.places.specs.declared.positions.TonePlaces.{TonePlaces}
+use Rattle.gain_positions.specs.declared.ImagePlaces.{ImagePlaces}
+use Rattle.gain_positions.specs.declared.TonePlaces.{TonePlaces}
 use Rattle.places.specs.declared.Places.{Places}
-use Rattle.places.specs.Places.{turns-of}
 
 -- of the properties that may be absent
 abbrev pub option-count : OptionPlaces → ℕ
 option-count o = o .colr .count + (o .clli .count + (o .irot .count + o .imir .count))
 
--- of a grid: ispe, two roles of its own, and those that may be absent
-abbrev pub grid-count : Run → Run → Run → OptionPlaces → ℕ
-grid-count full two three o = full .count + (two .count + (three .count + option-count o))
+abbrev pub color-grid-count : ColorPlaces → OptionPlaces → ℕ
+color-grid-count c o = c .«ispe_full» .count + (c .colr .count + (c .pixi .count + option-count o))
+
+-- with the colour picture's ispe, and of the properties that may be absent the transforms alone
+abbrev pub alpha-grid-count : ColorPlaces → AlphaPlaces → OptionPlaces → ℕ
+alpha-grid-count c a o = c .«ispe_full» .count + (a .pixi .count + (a .auxc .count + (o .irot .count + o .imir .count)))
 
 abbrev pub image-count : ImagePlaces → Run → Run → ℕ
 image-count p irot imir = p .hvcc .count + (p .ispe .count + (p .pixi .count + (p .auxc .count + (p .colr .count + (irot .count + imir .count)))))
@@ -29,14 +31,14 @@ tone-count p = p .ispe .count + (p .pixi .count + p .colr .count)
 -- ---- the entries of each picture: its tiles, then its grid
 
 abbrev pub color-entries-size : Form → Shape → ColorPlaces → OptionPlaces → ℕ
-color-entries-size f s c o = (f .id + 1 + (c .hvcc .count + (c .«ispe_tile» .count + c .colr .count))) * s .tiles + (f .id + 1 + grid-count (c .«ispe_full») (c .colr) (c .pixi) o)
+color-entries-size f s c o = (f .id + 1 + (c .hvcc .count + (c .«ispe_tile» .count + c .colr .count))) * s .tiles + (f .id + 1 + color-grid-count c o)
 
 abbrev pub alpha-entries-size : Form → Shape → ColorPlaces → AlphaPlaces → OptionPlaces → ℕ
-alpha-entries-size f s c a o = (f .id + 1 + (a .hvcc .count + c .«ispe_tile» .count)) * s .tiles + (f .id + 1 + grid-count (c .«ispe_full») (a .pixi) (a .auxc) o)
+alpha-entries-size f s c a o = (f .id + 1 + (a .hvcc .count + c .«ispe_tile» .count)) * s .tiles + (f .id + 1 + alpha-grid-count c a o)
 
 -- how many bytes ipma takes
 abbrev pub ipma-bytes : Form → Shape → Places → ℕ
 ipma-bytes f s y =
     16 + (color-entries-size f s (y .color) (y .options)
-    + (alpha-entries-size f s (y .color) (y .alpha) (turns-of (y .options))
+    + (alpha-entries-size f s (y .color) (y .alpha) (y .options)
     + (cond (s .gain) (f .id + 1 + image-count (y .image) (y .options .irot) (y .options .imir)) 0 + cond (s .tone) (f .id + 1 + tone-count (y .tone)) 0)))

@@ -1,18 +1,17 @@
 -- What each item is associated with: the entries of ipma, by the runs of positions.
-use mathlib.Core.Bool.{Bool, true, false}
 use mathlib.Core.List.{List, [], _∷_}
 use Prim.Native.Nat.{ℕ}
 use Rattle.octets.specs.Numbers.{_‖_}
 use Rattle.panel.specs.Items.{colour-grid, alpha-tile, alpha-grid}
 use Rattle.panel.specs.Ipma.{Association, _with_, each, essential}
 use Rattle.panel.specs.declared.Shape.{Shape}
-use Rattle.boxes.specs.Runs.{places, marked}
+use Rattle.boxes.specs.Runs.{places}
 use Rattle.boxes.specs.declared.association.Run.{Run}
 use Rattle.places.specs.declared.pictures.ColorPlaces.{ColorPlaces}
 use Rattle.places.specs.declared.pictures.AlphaPlaces.{AlphaPlaces}
 use Rattle.places.specs.declared.pictures.OptionPlaces.{OptionPlaces}
-use Rattle.places.specs.declared.positions.ImagePlaces.{ImagePlaces}
-use Rattle.places.specs.declared.positions.TonePlaces.{TonePlaces}
+use Rattle.gain_positions.specs.declared.ImagePlaces.{ImagePlaces}
+use Rattle.gain_positions.specs.declared.TonePlaces.{TonePlaces}
 
 -- ---- without the heads of the entries
 
@@ -20,15 +19,12 @@ use Rattle.places.specs.declared.positions.TonePlaces.{TonePlaces}
 abbrev pub option-list : OptionPlaces → List ℕ
 option-list o = places (o .colr) ‖ places (o .clli) ‖ essential (places (o .irot)) ‖ essential (places (o .imir))
 
--- a grid: ispe, two roles of its own, of which the first may be essential, and those that may be absent
-abbrev pub grid-list : Run → Run → Bool → Run → OptionPlaces → List ℕ
-grid-list full two e three o = places full ‖ marked e (places two) ‖ places three ‖ option-list o
-
 abbrev pub color-grid-list : ColorPlaces → OptionPlaces → List ℕ
-color-grid-list c o = grid-list (c .«ispe_full») (c .colr) true (c .pixi) o
+color-grid-list c o = places (c .«ispe_full») ‖ essential (places (c .colr)) ‖ places (c .pixi) ‖ option-list o
 
-abbrev pub alpha-grid-list : Run → AlphaPlaces → OptionPlaces → List ℕ
-alpha-grid-list full a o = grid-list full (a .pixi) false (a .auxc) o
+-- with the colour picture's ispe, and of the properties that may be absent the transforms alone
+abbrev pub alpha-grid-list : ColorPlaces → AlphaPlaces → OptionPlaces → List ℕ
+alpha-grid-list c a o = places (c .«ispe_full») ‖ places (a .pixi) ‖ places (a .auxc) ‖ essential (places (o .irot)) ‖ essential (places (o .imir))
 
 abbrev pub image-list : ImagePlaces → Run → Run → List ℕ
 image-list p irot imir =
@@ -45,4 +41,4 @@ color-entries s c o =
 
 abbrev pub alpha-entries : Shape → ColorPlaces → AlphaPlaces → OptionPlaces → List Association
 alpha-entries s c a o =
-    each (alpha-tile s) (s .tiles) (essential (places (a .hvcc)) ‖ essential (places (c .«ispe_tile»))) ‖ (alpha-grid s with alpha-grid-list (c .«ispe_full») a o) ∷ []
+    each (alpha-tile s) (s .tiles) (essential (places (a .hvcc)) ‖ essential (places (c .«ispe_tile»))) ‖ (alpha-grid s with alpha-grid-list c a o) ∷ []

@@ -1,16 +1,13 @@
 -- The positions of all properties, run by run: one behind the other.
 use Prim.Native.Nat.{ℕ, _+_}
 use Rattle.boxes.specs.Runs.{Fitting}
-use Rattle.boxes.specs.declared.association.Run.{Run}
 use Rattle.places.specs.declared.pictures.ColorPlaces.{ColorPlaces}
 use Rattle.places.specs.declared.pictures.AlphaPlaces.{AlphaPlaces}
 use Rattle.places.specs.declared.pictures.OptionPlaces.{OptionPlaces}
-use Rattle.places.specs.declared.positions.ImagePlaces.{ImagePlaces}
-use Rattle.places.specs.declared.positions.TonePlaces.{TonePlaces}
-
--- so many positions from `first` on
-abbrev pub run-at : ℕ → ℕ → Run
-run-at first count = record { first = record { 0 = first }; count = count }
+use Rattle.places.specs.declared.gain.GainPlaces.{GainPlaces}
+use Rattle.gain_positions.specs.Positions.{run-at, image-at, behind-image, tone-at, behind-tone}
+use Rattle.gain_positions.specs.declared.ImagePlaces.{ImagePlaces}
+use Rattle.gain_positions.specs.declared.TonePlaces.{TonePlaces}
 
 -- ---- the panel's own properties
 
@@ -25,10 +22,6 @@ alpha-at n k = record { hvcc = run-at n k; pixi = run-at (n + k) k; auxc = run-a
 abbrev pub options-at : ℕ → ℕ → ℕ → ℕ → ℕ → OptionPlaces
 options-at n colr irot imir clli =
     record { colr = run-at n colr; irot = run-at (n + colr) irot; imir = run-at (n + colr + irot) imir; clli = run-at (n + colr + irot + imir) clli }
-
--- the transforms alone
-abbrev pub turns-of : OptionPlaces → OptionPlaces
-turns-of o = record { colr = run-at (o .colr .first .0) 0; irot = o .irot; imir = o .imir; clli = run-at (o .clli .first .0) 0 }
 
 pub record Color-fits (c : ColorPlaces) : Type 0 where
   pub hvcc : Fitting (c .hvcc)
@@ -50,14 +43,13 @@ pub record Options-fit (o : OptionPlaces) : Type 0 where
 
 -- ---- the gain map's
 
--- of the gain image's properties, with k boxes each
-abbrev pub image-at : ℕ → ℕ → ImagePlaces
-image-at n k =
-    record { hvcc = run-at n k; ispe = run-at (n + k) k; pixi = run-at (n + k + k) k; auxc = run-at (n + k + k + k) k; colr = run-at (n + k + k + k + k) k }
+-- the gain image's from n on, and the tone map's behind them
+abbrev pub gain-at : ℕ → ℕ → ℕ → ℕ → GainPlaces
+gain-at n image tone alternates = record { image = image-at n image; tone = tone-at (behind-image n image) tone alternates }
 
--- of the tone map's properties, with k boxes each and so many alternate colours
-abbrev pub tone-at : ℕ → ℕ → ℕ → TonePlaces
-tone-at n k alternates = record { ispe = run-at n k; pixi = run-at (n + k) k; colr = run-at (n + k + k) alternates }
+-- the next free position behind both
+abbrev pub behind-gain : ℕ → ℕ → ℕ → ℕ → ℕ
+behind-gain n image tone alternates = behind-tone (behind-image n image) tone alternates
 
 pub record Image-fits (p : ImagePlaces) : Type 0 where
   pub hvcc : Fitting (p .hvcc)

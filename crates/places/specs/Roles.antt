@@ -2,6 +2,7 @@
 use mathlib.Core.Path.{_≡_}
 use mathlib.Core.List.{List}
 use Prim.Native.Nat.{ℕ}
+use lib.ListN.{length}
 use Rattle.panel.specs.Panel.{Panel}
 use Rattle.panel.specs.Ipco
 use Rattle.panel.specs.Ipma.{positions}
@@ -31,8 +32,9 @@ its-of y Ipco.ispe-tone = places (y .tone .ispe)
 its-of y Ipco.pixi-tone = places (y .tone .pixi)
 its-of y Ipco.colr-tone = places (y .tone .colr)
 
--- they are the definition's, of a panel
+-- they are the definition's, of a panel, and so is how many properties there are
 pub record Placed (p : Panel) (y : Places) : Type 0 where
+  pub count : y .count ≡ length (Ipco.properties p)
   pub role : (r : Ipco.Role) → its-of y r ≡ positions 1 (Ipco.slots p) r
 
 -- each leaves the highest bit free

@@ -1,7 +1,7 @@
 // How many properties each item is associated with, and how many bytes ipma takes for them.
 ghost use mathlib.Core.Path.{_≡_};
 ghost use Prim.Native.Nat.{_+_, _*_, _≤_};
-ghost use Rattle.places.specs.Counts.{grid-count, image-count, tone-count, color-entries-size, alpha-entries-size, ipma-bytes};
+ghost use Rattle.places.specs.Counts.{color-grid-count, alpha-grid-count, image-count, tone-count, color-entries-size, alpha-entries-size, ipma-bytes};
 ghost use Rattle.places.specs.Roles.{Fit};
 ghost use Rattle.panel.specs.Forms.{form-of};
 ghost use Rattle.boxes.specs.Runs.{Fitting};
@@ -10,30 +10,46 @@ use crate::Places;
 use crate::pictures::AlphaPlaces;
 use crate::pictures::ColorPlaces;
 use crate::pictures::OptionPlaces;
-use crate::pictures::turns_of;
-use crate::positions::ImagePlaces;
-use crate::positions::TonePlaces;
 use boxes::association::Run;
 use boxes::form::ids_bytes;
+use gain_positions::ImagePlaces;
+use gain_positions::TonePlaces;
 use octets::when;
 use panel::FileForm;
 use panel::Shape;
 
-// How many properties a grid has: ispe, two roles of its own, and those that may be absent.
-pub fn grid_count(full: Run, two: Run, three: Run, o: OptionPlaces) -> u8
-    requires { ⌜ Fitting full ⌝ }
-    requires { ⌜ Fitting two ⌝ }
-    requires { ⌜ Fitting three ⌝ }
+// How many associations the colour grid has.
+pub fn color_grid_count(c: ColorPlaces, o: OptionPlaces) -> u8
+    requires { ⌜ Color-fits c ⌝ }
     requires { ⌜ Options-fit o ⌝ }
-    ensures { λ r. ⌜ r ≡ grid-count full two three o ⌝ }
+    ensures { λ r. ⌜ r ≡ color-grid-count c o ⌝ }
     ensures { λ r. ⌜ r ≤ 14 ⌝ }
 {
+    let full = c.ispe_full;
+    let colr = c.colr;
+    let pixi = c.pixi;
     let second = o.colr;
     let clli = o.clli;
     let irot = o.irot;
     let imir = o.imir;
     full.count
-        + (two.count + (three.count + (second.count + (clli.count + (irot.count + imir.count)))))
+        + (colr.count + (pixi.count + (second.count + (clli.count + (irot.count + imir.count)))))
+}
+
+// How many associations the alpha grid has.
+pub fn alpha_grid_count(c: ColorPlaces, a: AlphaPlaces, o: OptionPlaces) -> u8
+    requires { ⌜ Color-fits c ⌝ }
+    requires { ⌜ Alpha-fits a ⌝ }
+    requires { ⌜ Options-fit o ⌝ }
+    ensures { λ r. ⌜ r ≡ alpha-grid-count c a o ⌝ }
+    ensures { λ r. ⌜ r ≤ 14 ⌝ }
+{
+    let full = c.ispe_full;
+    let pixi = a.pixi;
+    let auxc = a.auxc;
+    let irot = o.irot;
+    let imir = o.imir;
+    full.count + (pixi.count + (auxc.count + (irot.count + imir.count)))
 }
 
 // How many associations the gain image has.
@@ -84,15 +100,13 @@ fn color_entries_size(form: FileForm, s: Shape, c: ColorPlaces, o: OptionPlaces)
 {
     let hvcc = c.hvcc;
     let tile = c.ispe_tile;
-    let full = c.ispe_full;
     let colr = c.colr;
-    let pixi = c.pixi;
     let each = hvcc.count + (tile.count + colr.count);
-    let grid = grid_count(full, colr, pixi, o);
+    let grid = color_grid_count(c, o);
     entries_size(form, s.tiles, each, grid)
 }
 
-// Those of the alpha picture, of whose properties that may be absent o has the transforms alone.
+// Those of the alpha picture.
 fn alpha_entries_size(
     form: FileForm,
     s: Shape,
@@ -108,12 +122,9 @@ fn alpha_entries_size(
     ensures { λ r. ⌜ r ≤ 730000 ⌝ }
 {
     let hvcc = a.hvcc;
-    let pixi = a.pixi;
-    let auxc = a.auxc;
     let tile = c.ispe_tile;
-    let full = c.ispe_full;
     let each = hvcc.count + tile.count;
-    let grid = grid_count(full, pixi, auxc, o);
+    let grid = alpha_grid_count(c, a, o);
     entries_size(form, s.tiles, each, grid)
 }
 
@@ -132,8 +143,7 @@ pub fn ipma_bytes(form: FileForm, s: Shape, y: Places) -> u32
     let irot = options.irot;
     let imir = options.imir;
     let colors = color_entries_size(form, s, color, options);
-    let turns = turns_of(options);
-    let alphas = alpha_entries_size(form, s, color, alpha, turns);
+    let alphas = alpha_entries_size(form, s, color, alpha, options);
     let head = ids_bytes(form, 1) + 1;
     let images = when(s.gain, head + image_count(image, irot, imir) as u32);
     let tones = when(s.tone, head + tone_count(tone) as u32);

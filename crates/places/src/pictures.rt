@@ -1,7 +1,7 @@
 // The positions of the properties of the colour picture and the alpha picture, and of those that may be absent.
 ghost use mathlib.Core.Path.{_≡_};
 ghost use Prim.Native.Nat.{_+_, _*_, _≤_};
-ghost use Rattle.places.specs.Places.{color-at, alpha-at, options-at, turns-of, Options-fit};
+ghost use Rattle.places.specs.Places.{color-at, alpha-at, options-at};
 use boxes::association::Run;
 use gain_positions::Positions;
 use panel::PropertyPosition;
@@ -123,25 +123,5 @@ pub fn option_places(positions: Positions, colr: u8, irot: u8, imir: u8, clli: u
             },
         },
         positions: Positions { next },
-    }
-}
-
-// Of the properties that may be absent the transforms alone.
-pub fn turns_of(o: OptionPlaces) -> OptionPlaces
-    requires { ⌜ Options-fit o ⌝ }
-    ensures { λ r. ⌜ r ≡ turns-of o ⌝ }
-    ensures { λ r. ⌜ Options-fit r ⌝ }
-{
-    let second = o.colr;
-    let clli = o.clli;
-    let irot = o.irot;
-    let imir = o.imir;
-    let a = second.first;
-    let b = clli.first;
-    OptionPlaces {
-        colr: Run { first: a, count: 0 },
-        irot,
-        imir,
-        clli: Run { first: b, count: 0 },
     }
 }

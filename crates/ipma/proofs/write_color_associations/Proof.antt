@@ -1,24 +1,28 @@
 -- The tiles' entries and the grid's.
 use borrow.Author.Needs.{needs}
-use mathlib.Core.Path.{refl, sym, ap}
-use mathlib.Core.List.{[], _∷_, flatMap}
-use Prim.Native.Nat.{ℕ}
+use mathlib.Core.Path.{refl, sym, _∙_}
+use mathlib.Core.List.{[], _∷_}
 use Rattle.octets.proofs.Lists.{flatMap-append}
 use Rattle.octets.proofs.Stores.{_▹_, told}
 use Rattle.panel.specs.Forms.{form-of}
-use Rattle.panel.specs.Ipma.{_with_, association}
+use Rattle.panel.specs.Ipma.{association}
+use Rattle.boxes.proofs.Marks.{associated}
 use Rattle.places.specs.Lists.{color-grid-list}
+use Rattle.places.proofs.Lengths.{length-color-grid-list}
 use Rattle.ipma.proofs.write_color_associations.Statement.{statement}
 use Rattle.ipma.proofs.write_color_associations.Tie as tie
 
 returns : tie.Need-returns
 returns c =
-    let c2 = c .before .before in
+    let c3 = c .before .before in
+    let c2 = c3 .before .before .before .before in
     let c1 = c2 .before .before .before .before in
-    let id = c1 .before .before in
-    let start = id .before .before .before .before .before .before .before in
-    let grid = told (c2 .write-grid-association .ensures) (ap (λ (k : ℕ). flatMap (association (form-of (start .args .form))) ((k with color-grid-list (start .args .c) (start .args .o)) ∷ [])) (id .color-grid-id .ensures)) refl in
-    told ((c1 .write-tile-associations .ensures) ▹ grid) (sym (flatMap-append (association (form-of (start .args .form))) _ _)) refl
+    let count = c1 .before .before in
+    let id = count .before in
+    let start = id .before .before .before .before .before in
+    let a = start .args in
+    let grid = told ((c2 .write-association-head .ensures) ▹ (c3 .write-color-grid-list .ensures)) (associated (form-of (a .form)) (color-grid-list (a .c) (a .o)) (id .color-grid-id .ensures) (count .color-grid-count .ensures .0 ∙ sym (length-color-grid-list (a .c) (a .o)))) refl in
+    told ((c1 .write-color-tile-associations .ensures) ▹ grid) (sym (flatMap-append (association (form-of (a .form))) _ _)) refl
 
 pub write-color-associations-spec : {M : Type 1} → statement M
-write-color-associations-spec = tie.close (tie.spec (λ c κs. search needs) (λ c κs. search needs) (λ c κs. search needs) (λ c. search needs) returns)
+write-color-associations-spec = tie.close (tie.spec (λ c κs. search needs) (λ c κs. search needs) (λ c κs. search needs) (λ c κs. search needs) (λ c κs. search needs) (λ c. search needs) returns)

@@ -1,11 +1,13 @@
 -- Runs laid one behind the other from the first position on.
 use borrow.Author.Needs.{needs}
+use native.Mathlib.Omega.{arith}
 use mathlib.Core.Path.{_≡_, ap, _∙_}
 use mathlib.Core.Bool.{cond}
-use Prim.Native.Nat.{ℕ, _+_}
-use Rattle.places.proofs.Roles.{placed-of, color-fits, alpha-fits}
-use Rattle.places.specs.Places.{alpha-at, options-at, image-at, tone-at}
-use Rattle.gain_positions.specs.Positions.{behind-image}
+use mathlib.Core.List.{[]}
+use Prim.Native.Nat.{ℕ, _+_, _-_}
+use Rattle.places.proofs.Roles.{laid-of, placed-of, color-fits, alpha-fits}
+use Rattle.places.specs.Places.{alpha-at, options-at, gain-at, behind-gain}
+use Rattle.places.specs.declared.gain.GainPlaces.{GainPlaces}
 use Rattle.length.specs.Properties.{second-colr-count, irot-count, imir-count}
 use Rattle.panel.specs.Of.{Lent, panel-of}
 use Rattle.panel.specs.Items.{has, shape}
@@ -14,12 +16,19 @@ use Rattle.places.specs.Roles.{Placed}
 use Rattle.places.proofs.places_of.Statement.{statement}
 use Rattle.places.proofs.places_of.Tie as tie
 
+-- the first position is 1, and the record is only ever raised
+sub-t17 : tie.Need-sub-t17
+sub-t17 c =
+    let c4 = c .before .before .before .before .before .before .before .before in
+    let c3 = c4 .before in
+    let c2 = c3 .before in
+    let c1 = c2 .before in
+    omega (arith, (c4 .panel-gain .ensures) .1 .1 .1, (c3 .panel-options .ensures) .0 [] .1, (c2 .alpha-places .ensures) .1, (c1 .color-places .ensures) .1)
+
 returns : tie.Need-returns
 unfolding panel-of
 returns c =
-    let c6 = c .before .before .before .before .before in
-    let c5 = c6 .before in
-    let c4 = c5 .before .before .before in
+    let c4 = c .before .before .before .before .before .before .before .before in
     let c3 = c4 .before in
     let c2 = c3 .before in
     let c1 = c2 .before in
@@ -28,20 +37,21 @@ returns c =
     let n2 = (c2 .alpha-places .ensures) .1 ∙ ap (λ (n : ℕ). n + 1 + 1 + 1) n1 in
     let alpha = (c2 .alpha-places .ensures) .0 ∙ ap (λ (n : ℕ). alpha-at n 1) n1 in
     let s = start .args .s in
-    let g = cond {A = ℕ} (s .gain) 1 0 in
     let given-lent : (l : Lent) → s ≡ shape (panel-of (start .args .panel) l) → Placed (panel-of (start .args .panel) l) _ = λ l h.
     let p = panel-of (start .args .panel) l in
     let k = second-colr-count (p .colour .cicp) (p .colour .icc) in
     let o = p .metadata .orientation in
     let light = cond {A = ℕ} (has (p .metadata .light)) 1 0 in
+    let g = cond {A = ℕ} (s .gain) 1 0 in
+    let t = cond {A = ℕ} (s .tone) 1 0 in
+    let a = toned-alternates (p .gain) in
     let n3 = (c3 .panel-options .ensures) .0 (l .icc) .1 ∙ ap (λ (n : ℕ). n + k + irot-count o + imir-count o + light) n2 in
-    let n4 = (c4 .gain-begins .ensures) .0 .0 ∙ n3 in
-    let n5 = (c4 .gain-begins .ensures) .0 .1 ∙ ap (λ (n : ℕ). behind-image n g) n3 in
     let options = (c3 .panel-options .ensures) .0 (l .icc) .0 ∙ ap (λ (n : ℕ). options-at n k (irot-count o) (imir-count o) light) n2 in
-    let image = (c5 .gain-image .ensures) .0 .0 ∙ ap (λ (n : ℕ). image-at n g) n4 in
-    let tone = (c6 .gain-tone .ensures) .0 l ∙ ap (λ (n : ℕ). tone-at n (cond {A = ℕ} (s .tone) 1 0) (toned-alternates (p .gain))) n5 in
-    placed-of p s _ h (λ i. record { color = (c1 .color-places .ensures) .0 i; alpha = alpha i; options = options i; image = image i; tone = tone i }) in
-    (given-lent, record { color = color-fits ((c1 .color-places .ensures) .0); alpha = alpha-fits alpha; options = (c3 .panel-options .ensures) .1 .0; image = (c5 .gain-image .ensures) .1 .0; tone = (c6 .gain-tone .ensures) .1 })
+    let gain = (c4 .panel-gain .ensures) .0 l .0 ∙ ap (λ (n : ℕ). gain-at n g t a) n3 in
+    let n4 = (c4 .panel-gain .ensures) .0 l .1 ∙ ap (λ (n : ℕ). behind-gain n g t a) n3 in
+    let count : c4 .panel-gain .result .positions .next .0 - 1 ≡ laid-of p s .count = omega (arith, n4) in
+    placed-of p s _ h (λ i. record { color = (c1 .color-places .ensures) .0 i; alpha = alpha i; options = options i; image = gain i .image; tone = gain i .tone; count = count i }) in
+    (given-lent, record { color = color-fits ((c1 .color-places .ensures) .0); alpha = alpha-fits alpha; options = (c3 .panel-options .ensures) .1 .0; image = (c4 .panel-gain .ensures) .1 .0; tone = (c4 .panel-gain .ensures) .1 .1 .0 })
 
 pub places-of-spec : {M : Type 1} → statement M
-places-of-spec = tie.close (tie.spec (λ c κs. search needs) (λ c κs. search needs) (λ c κs. search needs) (λ c κs. search needs) (λ c κs. search needs) (λ c κs. search needs) returns)
+places-of-spec = tie.close (tie.spec (λ c κs. search needs) (λ c κs. search needs) (λ c κs. search needs) (λ c κs. search needs) sub-t17 returns)

@@ -1,42 +1,39 @@
 -- The head, the entries of each picture, and those of the gain image and the tone map, where they are.
 use borrow.Author.Needs.{needs}
 use native.Mathlib.Omega.{arith}
-use mathlib.Core.Path.{_≡_, ap, _∙_}
+use mathlib.Core.Path.{_≡_, _∙_}
 use mathlib.Core.Bool.{cond}
 use Prim.Native.Nat.{ℕ, _+_}
 use Rattle.panel.specs.Forms.{form-of}
-use Rattle.places.specs.Counts.{alpha-entries-size}
 use Rattle.places.proofs.associations.ipma_bytes.Statement.{statement}
 use Rattle.places.proofs.associations.ipma_bytes.Tie as tie
 
 image-count-requires : tie.Need-image-count-requires
 image-count-requires c κs =
-    let c1 = c .before .before .before in
+    let c1 = c .before .before in
     let fit = c1 .before .before .before .before .before .before .before .before .pre .1 in
     (fit .image, (fit .options .irot, fit .options .imir))
 
 tone-count-requires : tie.Need-tone-count-requires
 tone-count-requires c κs =
-    let c1 = c .before .before .before .before .before in
+    let c1 = c .before .before .before .before in
     c1 .before .before .before .before .before .before .before .before .pre .1 .tone
 
 returns : tie.Need-returns
 returns c =
-    let c8 = c in
-    let c7 = c8 .before in
+    let c7 = c in
     let c6 = c7 .before in
     let c5 = c6 .before in
     let c4 = c5 .before in
     let c3 = c4 .before in
-    let turns = c3 .before in
-    let c1 = turns .before in
+    let c2 = c3 .before in
+    let c1 = c2 .before in
     let start = c1 .before .before .before .before .before .before .before .before in
     let f = form-of (start .args .form) in
-    let head : c4 .ids-bytes .result + 1 ≡ f .id + 1 = omega (arith, c4 .ids-bytes .ensures .0) in
-    let image = (c6 .when .ensures) .0 ∙ (λ i. cond {A = ℕ} (start .args .s .gain) (head i + (c5 .image-count .ensures) i) 0) in
-    let tone = (c8 .when2 .ensures) .0 ∙ (λ i. cond {A = ℕ} (start .args .s .tone) (head i + (c7 .tone-count .ensures) i) 0) in
-    let alpha = (c3 .alpha-entries-size .ensures) .0 ∙ ap (alpha-entries-size f (start .args .s) (start .args .y .color) (start .args .y .alpha)) (turns .turns-of .ensures .0) in
-    (omega (arith, (c1 .color-entries-size .ensures) .0, alpha, image, tone), omega (arith, (c1 .color-entries-size .ensures) .1, (c3 .alpha-entries-size .ensures) .1, (c6 .when .ensures) .1, (c8 .when2 .ensures) .1, c4 .ids-bytes .ensures .1))
+    let head : c3 .ids-bytes .result + 1 ≡ f .id + 1 = omega (arith, c3 .ids-bytes .ensures .0) in
+    let image = (c5 .when .ensures) .0 ∙ (λ i. cond {A = ℕ} (start .args .s .gain) (head i + (c4 .image-count .ensures) i) 0) in
+    let tone = (c7 .when2 .ensures) .0 ∙ (λ i. cond {A = ℕ} (start .args .s .tone) (head i + (c6 .tone-count .ensures) i) 0) in
+    (omega (arith, (c1 .color-entries-size .ensures) .0, (c2 .alpha-entries-size .ensures) .0, image, tone), omega (arith, (c1 .color-entries-size .ensures) .1, (c2 .alpha-entries-size .ensures) .1, (c5 .when .ensures) .1, (c7 .when2 .ensures) .1, c3 .ids-bytes .ensures .1))
 
 pub ipma-bytes-spec : {M : Type 1} → statement M
-ipma-bytes-spec = tie.close (tie.spec (λ c κs. search needs) (λ c κs. search needs) (λ c κs. search needs) (λ c κs. search needs) (λ c. search needs) image-count-requires (λ c. search needs) (λ c. search needs) (λ c κs. search needs) tone-count-requires (λ c. search needs) (λ c. search needs) (λ c κs. search needs) (λ c. search needs) (λ c. search needs) (λ c. search needs) (λ c. search needs) returns)
+ipma-bytes-spec = tie.close (tie.spec (λ c κs. search needs) (λ c κs. search needs) (λ c κs. search needs) (λ c. search needs) image-count-requires (λ c. search needs) (λ c. search needs) (λ c κs. search needs) tone-count-requires (λ c. search needs) (λ c. search needs) (λ c κs. search needs) (λ c. search needs) (λ c. search needs) (λ c. search needs) (λ c. search needs) returns)

@@ -12,8 +12,8 @@ use Rattle.panel.specs.Forms.{form-of}
 use Rattle.panel.specs.Ipma.{essential, _with_, association}
 use Rattle.boxes.specs.Runs.{places}
 use Rattle.boxes.specs.declared.association.Run.{Run}
-use Rattle.boxes.proofs.association.write_tile_associations.Statement.{statement}
-use Rattle.boxes.proofs.association.write_tile_associations.Tie as tie
+use Rattle.boxes.proofs.association.write_color_tile_associations.Statement.{statement}
+use Rattle.boxes.proofs.association.write_color_tile_associations.Tie as tie
 
 -- the bytes of a tile's entry
 abbrev print : Form → Run → Run → Run → ℕ → List ℕ
@@ -28,15 +28,15 @@ abbrev μ-loop : tie.MeasureT-loop
 loop-holds : tie.Need-loop-holds Inv-loop μ-loop
 loop-holds c = begun
 
-write-tile-association-requires : tie.Need-write-tile-association-requires Inv-loop μ-loop
-write-tile-association-requires c κs =
+write-color-tile-association-requires : tie.Need-write-color-tile-association-requires Inv-loop μ-loop
+write-color-tile-association-requires c κs =
     let start = c .before .before .before .before in
     (room (c .before .before .loop .inv) (c .before .loop-test .taken) (start .pre .0), start .pre .1 .1)
 
 loop-again : tie.Need-loop-again Inv-loop μ-loop
 loop-again c =
     let c1 = c .before .before in
-    turned (c .before .before .before .before .before .loop .inv) (c .before .before .before .before .loop-test .taken) (c1 .write-tile-association .ensures)
+    turned (c .before .before .before .before .before .loop .inv) (c .before .before .before .before .loop-test .taken) (c1 .write-color-tile-association .ensures)
 
 same-length : tie.Need-same-length Inv-loop μ-loop
 same-length c =
@@ -47,5 +47,5 @@ returns c =
     let start = c .before .before .before in
     told (ended (c .before .loop .inv) (omega arith)) (sym (flatMap-map (association (form-of (start .args .form))) (λ id. id with essential (places (start .args .one)) ‖ essential (places (start .args .two)) ‖ essential (places (start .args .three))) (ids-from (start .args .first .0) (start .args .n)))) refl
 
-pub write-tile-associations-spec : {M : Type 1} → statement M
-write-tile-associations-spec = tie.close (tie.spec Inv-loop μ-loop loop-holds write-tile-association-requires (λ c. omega arith) (λ c. omega arith) (λ c. omega arith) loop-again same-length returns)
+pub write-color-tile-associations-spec : {M : Type 1} → statement M
+write-color-tile-associations-spec = tie.close (tie.spec Inv-loop μ-loop loop-holds write-color-tile-association-requires (λ c. omega arith) (λ c. omega arith) (λ c. omega arith) loop-again same-length returns)

@@ -1,4 +1,4 @@
--- The record is made in a local and lent: a walk of the MIR, by hand. The local is lent for a lifetime of the call to `place_gain`, of which the proof knows only that it meets its contract, and is read once it has come back.
+-- The running record is lent: a walk of the MIR, by hand. The local that holds it is lent for a lifetime of the call to `place_gain`, of which the proof knows only that it meets its contract, and is read once it has come back.
 use mathlib.Core.Path.{_≡_, refl, ap}
 use Prim.Native.Nat.{ℕ, _<_, _≤_, _^_}
 use mathlib.Core.List.{[], _∷_, List}
@@ -38,38 +38,35 @@ use denote.Triple.Clauses.{ensured, lasts}
 use denote.Triple.Table.{entered, cited}
 use denote.Triple.Walked.{says, needs, Stays, stay-none, walkOf, AllGo, goes-none, Walks, ends-at, walked, walk-meets}
 use denote.Exit.{yes}
-use Rattle.panel.specs.declared.PropertyPosition.{PropertyPosition}
-use Rattle.panel.proofs.PropertyPosition as P
-use Rattle.panel.proofs.PropertyPosition.Laws as P′
-use Rattle.gain_positions.specs.Positions.{behind-image, behind-gain}
-use Rattle.gain_positions.proofs.Machine.{pos, mach, is-pos, is-record, first-fits, tone-fits, next-fits, Counts, counts-at, Fitting, counts-own}
+use Rattle.places.specs.Places.{gain-at, behind-gain}
+use Rattle.places.specs.declared.gain.GainPlaces.{GainPlaces}
+use Rattle.places.specs.declared.gain.PlacedGain.{PlacedGain}
+use Rattle.places.proofs.Machine.{mach, is-record, first-fits, next-fits, Counts, counts-at, Bytes, counts-own}
 use Rattle.gain_positions.specs.declared.Positions.{Positions}
-use Rattle.gain_positions.specs.declared.GainPositions.{GainPositions}
-use Rattle.gain_positions.specs.declared.PlacedGain.{PlacedGain}
 use Rattle.gain_positions.proofs.Positions as T
 use Rattle.gain_positions.proofs.Positions.Laws as T′
-use Rattle.gain_positions.proofs.GainPositions as G
-use Rattle.gain_positions.proofs.GainPositions.Laws as G′
-use Rattle.gain_positions.proofs.PlacedGain as R
-use Rattle.gain_positions.proofs.PlacedGain.Laws as R′
-use Rattle.gain_positions.proofs.place_gain as lent
-use Rattle.gain_positions.proofs.place_gain.Symbol as lent-def
-use Rattle.gain_positions.proofs.place_gain.Symbol.{name as #gain-positions·place-gain}
-use Rattle.gain_positions.proofs.place_gain.Met as lent-thm
-use Rattle.gain_positions.proofs.gain_from.Key.{name as #gain-positions·gain-from}
-use Rattle.gain_positions.proofs.gain_from as gain-from
-use Rattle.gain_positions.proofs.gain_from.Statement as stated
-use Rattle.gain_positions.proofs.gain_from.Code as code
+use Rattle.places.proofs.gain.GainPlaces as G
+use Rattle.places.proofs.gain.GainPlaces.Laws as G′
+use Rattle.places.proofs.gain.PlacedGain as R
+use Rattle.places.proofs.gain.PlacedGain.Laws as R′
+use Rattle.places.proofs.gain.place_gain as lent
+use Rattle.places.proofs.gain.place_gain.Symbol as lent-def
+use Rattle.places.proofs.gain.place_gain.Symbol.{name as #places·gain·place-gain}
+use Rattle.places.proofs.gain.place_gain.Met as lent-thm
+use Rattle.places.proofs.gain.gain_from.Key.{name as #places·gain·gain-from}
+use Rattle.places.proofs.gain.gain_from as gain-from
+use Rattle.places.proofs.gain.gain_from.Statement as stated
+use Rattle.places.proofs.gain.gain_from.Code as code
 
 abbrev Arg : Type 0
-Arg = PropertyPosition × Counts
+Arg = Positions × Counts
 
 abbrev stayed : Stays (gain-from.ended .signature .params) (gain-from.ended .kept)
-stayed = (stay-none (λ _. P.the-row) yes, (stay-none (λ _. u8) yes, (stay-none (λ _. u8) yes, (stay-none (λ _. u8) yes, tt))))
+stayed = (stay-none (λ _. T.the-row) yes, (stay-none (λ _. u8) yes, (stay-none (λ _. u8) yes, (stay-none (λ _. u8) yes, tt))))
 
 -- what `place_gain` says of the first position n and the counts, its answer and the record that comes back
-abbrev Placed : ℕ → ℕ → ℕ → ℕ → GainPositions → Positions → Type 0
-Placed n i t a r z = (r .image .0 ≡ n) × (r .tone .0 ≡ behind-image n i) × (z .next .0 ≡ behind-gain n i t a)
+abbrev Placed : ℕ → ℕ → ℕ → ℕ → GainPlaces → Positions → Type 0
+Placed n i t a r z = (r ≡ gain-at n i t a) × (z .next .0 ≡ behind-gain n i t a)
 
 -- the contract that the proof cites
 abbrev Lent : {M : Type 1} (𝓤 : URA M) (H : Heap 𝓤) (A : Atoms 𝓤) (at-mem : Memory → SProp 𝓤) (run : Routine → Fun 𝓤) → Contract 𝓤
@@ -85,38 +82,33 @@ module _ {M : Type 1} (𝓤 : URA M) (H : Heap 𝓤) (A : Atoms 𝓤) (W : Given
   unfolding partOf
   lies-out = id⊢ 𝓤 _
 
-module _ {M : Type 1} (𝓤 : URA M) (H : Heap 𝓤) (A : Atoms 𝓤) (W : Given 𝓤 H A) (at-mem : Memory → SProp 𝓤) (run : Routine → Fun 𝓤) (p : PropertyPosition) (i t a : ℕ)
-    (f : Fitting (i, (t, (a, tt)))) (ok : behind-gain (p .0) i t a ≤ 127) where
+module _ {M : Type 1} (𝓤 : URA M) (H : Heap 𝓤) (A : Atoms 𝓤) (W : Given 𝓤 H A) (at-mem : Memory → SProp 𝓤) (run : Routine → Fun 𝓤) (h : Positions) (i t a : ℕ)
+    (f : Bytes (i, (t, (a, tt)))) (ok : behind-gain (h .next .0) i t a ≤ 127) where
   -- the first position
   abbrev n : ℕ
-  n = p .0
+  n = h .next .0
 
   abbrev x : Arg
-  x = (p, (i, (t, (a, tt))))
-
-  -- the record as it is made
-  abbrev h : Positions
-  h = record { next = p }
-
-  -- the answer, of what `place_gain` answers and the record that comes back
-  abbrev answer : GainPositions → Positions → PlacedGain
-  answer r z = record { image = r .image; tone = r .tone; next = z .next }
-
-  -- the answer as the machine has it
-  abbrev mach-r : GainPositions → Positions → Val
-  mach-r r z = vstruct (vcons (pos (r .image .0)) (vcons (pos (r .tone .0)) (vcons (pos (z .next .0)) vnil)))
+  x = (h, (i, (t, (a, tt))))
 
   abbrev at : List Val × (List Val × (List Val × (List Val × Unit {0})))
-  at = (pos n ∷ [], counts-at (i, (t, (a, tt))))
+  at = (mach n ∷ [], counts-at (i, (t, (a, tt))))
 
   fits-n : n < 2 ^ 8
-  fits-n = first-fits n i t a ok refl
+  fits-n = first-fits n i t a ok
+
+  -- the answer, of what `place_gain` answers and the record that comes back
+  abbrev answer : GainPlaces → Positions → PlacedGain
+  answer r z = record { places = r; positions = z }
+
+  -- the answer as the machine has it
+  abbrev mach-r : GainPlaces → Positions → Val
+  mach-r r z = LL.val R.the-type R′.the-laws (answer r z)
 
   -- what whoever returns the answer owes
-  made-r : (r : GainPositions) (z : Positions) → Placed n i t a r z → Is R.the-row (answer r z) (mach-r r z ∷ [])
-  made-r r z e =
-      LL.owes R.the-type R′.the-laws (answer r z)
-      (is-pos (r .image) (first-fits n i t a ok (e .0)), (is-pos (r .tone) (tone-fits n i t a ok (e .1)), (is-pos (z .next) (next-fits n i t a ok (e .2)), tt)))
+  made-r : (r : GainPlaces) (z : Positions) (v : Val) → Is G.the-row r (v ∷ []) → Placed n i t a r z → Is R.the-row (answer r z) (mach-r r z ∷ [])
+  made-r r z v is e =
+      LL.owes R.the-type R′.the-laws (answer r z) (LL.owes G.the-type G′.the-laws r (LL.owed G.the-type G′.the-laws r (v ∷ []) is), (is-record z (next-fits n i t a ok (e .1)), tt))
 
   -- the reference to the local at l
   abbrev s : ℕ → GName → RefT Positions
@@ -134,21 +126,21 @@ module _ {M : Type 1} (𝓤 : URA M) (H : Heap 𝓤) (A : Atoms 𝓤) (W : Given
       qed W (‵ (flft (ν ∷ []) fullShare) ∷ ‵ (MutRef (named 0) (ν ∷ []) T.the-row .own (s l δ) (vptr l 0 ∷ [])) ∷ []) ∵ says ! ok $ nothing ! $ move ! (1 ∷ 0 ∷ []) $ join ! $ frame ! $
       nothing ! $ use1 W (‵ (owns (u8 ∷ u8 ∷ u8 ∷ []) (x .1) (at .1))) (counts-own 𝓤 H A W (x .1) f) $ move ! (1 ∷ 0 ∷ []) $ fjoin ! $ done !
 
-  exits : (r : GainPositions) (z : Positions) → Placed n i t a r z → ent 𝓤 (sem 𝓤 H A ftrue) (Post (mach-r r z))
-  exits r z e =
+  exits : (r : GainPlaces) (z : Positions) → Placed n i t a r z → Is R.the-row (answer r z) (mach-r r z ∷ []) → ent 𝓤 (sem 𝓤 H A ftrue) (Post (mach-r r z))
+  exits r z e is =
       qed W (‵ ftrue ∷ []) ∵
       suffices ! _ (ends-at 𝓤 H A gain-from.ended stayed (gain-from.clauses 𝓤 H A at-mem run) W ((tt, tt, tt, x, at), tt) (mach-r r z) (answer r z) (tt, (tt, (tt, (tt, tt)))) (tt, (tt, (tt, (tt, tt))))) $
-      says ! e $ owned ! R.the-row (Is R.the-row) (LL.makes R.the-type R′.the-plain 𝓤 H A) (answer r z) _ (made-r r z e) $
-      nothing ! $ use1 W (‵ (owns (u8 ∷ u8 ∷ u8 ∷ []) (x .1) (at .1))) (counts-own 𝓤 H A W (x .1) f) $ owned ! P.the-row (Is P.the-row) (LL.makes P.the-type P′.the-plain 𝓤 H A) p _ (is-pos p fits-n) $ fjoin ! $ move ! (2 ∷ 0 ∷ 1 ∷ []) $ done !
+      says ! e $ owned ! R.the-row (Is R.the-row) (LL.makes R.the-type R′.the-plain 𝓤 H A) (answer r z) _ is $
+      nothing ! $ use1 W (‵ (owns (u8 ∷ u8 ∷ u8 ∷ []) (x .1) (at .1))) (counts-own 𝓤 H A W (x .1) f) $ owned ! T.the-row (Is T.the-row) (LL.makes T.the-type T′.the-plain 𝓤 H A) h _ (is-record h fits-n) $ fjoin ! $ move ! (2 ∷ 0 ∷ 1 ∷ []) $ done !
 
-  module _ (C : Calls 𝓤 H) (Λ : Loops 𝓤 H) (fm : FmC 𝓤 H (W .laws) C) (known : Triple 𝓤 (C #gain-positions·place-gain) (Lent 𝓤 H A at-mem run)) where
-    walk : ent 𝓤 (onEntry 𝓤 H A gain-from.signature tt tt x at) (WpFn 𝓤 H C Λ code.function (pos n ∷ vint w8 i ∷ vint w8 t ∷ vint w8 a ∷ []) Post)
+  module _ (C : Calls 𝓤 H) (Λ : Loops 𝓤 H) (fm : FmC 𝓤 H (W .laws) C) (known : Triple 𝓤 (C #places·gain·place-gain) (Lent 𝓤 H A at-mem run)) where
+    walk : ent 𝓤 (onEntry 𝓤 H A gain-from.signature tt tt x at) (WpFn 𝓤 H C Λ code.function (mach n ∷ vint w8 i ∷ vint w8 t ∷ vint w8 a ∷ []) Post)
     walk =
-        qed W (‵ ftrue ∷ ‵ (owns (P.the-row ∷ u8 ∷ u8 ∷ u8 ∷ []) x at) ∷ []) ∵ enter ! C Λ code.function (pos n ∷ vint w8 i ∷ vint w8 t ∷ vint w8 a ∷ []) _ $
-        alloc1 ! (λ l₀. alloc1 ! (λ l₁. alloc1 ! (λ l₂. alloc1 ! (λ l₃. alloc1 ! (λ l₄. alloc1 ! (λ l₅. alloc1 ! (λ l₆. alloc1 ! (λ l₇. alloc1 ! (λ l₈. alloc0 ! $ params1 ! $ pass1 ! (init ! 14 refl (tt, (record { fits = fits-n }, tt))) $
+        qed W (‵ ftrue ∷ ‵ (owns (T.the-row ∷ u8 ∷ u8 ∷ u8 ∷ []) x at) ∷ []) ∵ enter ! C Λ code.function (mach n ∷ vint w8 i ∷ vint w8 t ∷ vint w8 a ∷ []) _ $
+        alloc1 ! (λ l₀. alloc1 ! (λ l₁. alloc1 ! (λ l₂. alloc1 ! (λ l₃. alloc1 ! (λ l₄. alloc1 ! (λ l₅. alloc1 ! (λ l₆. alloc1 ! (λ l₇. alloc1 ! (λ l₈. alloc0 ! $ params1 ! $ pass1 ! (init ! 14 refl (tt, ((record { fits = fits-n }, tt), tt))) $
         pass1 ! (init ! 12 refl (tt, record { fits = f .image })) $ pass1 ! (init ! 10 refl (tt, record { fits = f .tone })) $ pass1 ! (init ! 8 refl (tt, record { fits = f .alternates })) $ pass0 ! $
         -- [_8; …; _7; …; _6; …; _5; …; _4; …; _3; …; _2; …; _1; …; room for _0; …; true; what the parameters own]
-        assigns ! (agg ! (and-then ! (load ! (from ! (stop !)) (look ! 14 refl)) (no-more !))) (from ! (stop !)) (init ! 6 refl (tt, ((record { fits = fits-n }, tt), tt))) $
+        assigns ! (of-opd ! (load ! (from ! (stop !)) (look ! 14 refl))) (from ! (stop !)) (init ! 6 refl (tt, ((record { fits = fits-n }, tt), tt))) $
         assigns ! (addr ! (from ! (stop !))) (from ! (stop !)) (init ! 2 refl (tt, tt)) $
         -- the local is lent for a lifetime ν of the call
         move ! (6 ∷ []) $ use1 W (‵ (cellAt fullShare (T.the-row .mir) (mach n ∷ []) l₅ 0)) (W .laws .at-raw fullShare T′.mir l₅ 0 (mach n)) $
@@ -159,7 +151,7 @@ module _ {M : Type 1} (𝓤 : URA M) (H : Heap 𝓤) (A : Atoms 𝓤) (W : Given
         move ! (2 ∷ 0 ∷ []) $ use2 W (raw (Lent 𝓤 H A at-mem run .pre (to-lent ν l₅ δ))) (goes-lent ν l₅ δ) $
         calls-at ! fm (Lent 𝓤 H A at-mem run) known (to-lent ν l₅ δ)
         (and-then ! (load ! (from ! (stop !)) (look ! 4 refl)) (and-then ! (load ! (from ! (stop !)) (look ! 13 refl)) (and-then ! (load ! (from ! (stop !)) (look ! 11 refl)) (and-then ! (load ! (from ! (stop !)) (look ! 9 refl)) (no-more !))))) (λ w.
-        use1 W (later (some (λ (r : GainPositions). ((‵ (flft (ν ∷ []) fullShare) ⊛ ‵ ftrue) ⊛ ‵ (G.the-row .own r (w ∷ []))) ⊛ raw (ensured 𝓤 H A lent.ended (lent.clauses 𝓤 H A at-mem run) (ν ∷ [], tt) (s l₅ δ, (i, (t, (a, tt)))) tt r)))) (id⊢ 𝓤 _) $ await ! tt $ pick ! (λ r.
+        use1 W (later (some (λ (r : GainPlaces). ((‵ (flft (ν ∷ []) fullShare) ⊛ ‵ ftrue) ⊛ ‵ (G.the-row .own r (w ∷ []))) ⊛ raw (ensured 𝓤 H A lent.ended (lent.clauses 𝓤 H A at-mem run) (ν ∷ [], tt) (s l₅ δ, (i, (t, (a, tt)))) tt r)))) (id⊢ 𝓤 _) $ await ! tt $ pick ! (λ r.
         split ! $ move ! (1 ∷ []) $
         use1 W (some (λ (zs : Positions × (Unit {0} × (Unit {0} × (Unit {0} × Unit {0})))). ‵ (lasts lent.ended (ν ∷ [], tt) (s l₅ δ, (i, (t, (a, tt)))) zs) ⊛ raw (fact 𝓤 (Placed n i t a r (zs .0))))) (id⊢ 𝓤 _) $ pick ! (λ zs.
         split ! $ move ! (1 ∷ []) $ heard ! (Placed n i t a r (zs .0)) (λ e. fsplit ! $ move ! (2 ∷ []) $ split ! $ move ! (1 ∷ []) $ peeks ! G.the-row (Is G.the-row) (shows 𝓤 H A G.the-row) r (w ∷ []) (λ is. drop ! $
@@ -172,24 +164,24 @@ module _ {M : Type 1} (𝓤 : URA M) (H : Heap 𝓤) (A : Atoms 𝓤) (W : Given
         spelt ! T.the-row (Is T.the-row) (shows 𝓤 H A T.the-row) (LL.vals T.the-type T′.the-laws) (LL.tells T.the-type T′.the-laws) fullShare (zs .0) vs l₅ 0 $
         use1 W (‵ (fat fullShare T′.mir l₅ 0 (mach (zs .0 .next .0)))) (W .laws .raw-at fullShare T′.mir l₅ 0 (mach (zs .0 .next .0))) $ move ! (1 ∷ []) $ drop ! $
         -- [_5; true; …; _8; …; _7; …; _6; …; …; _4; …; _3; …; _2; …; _1; …; room for _0; …; true; what the parameters own]
-        assigns ! (of-opd ! (load ! (from ! (fld ! refl (stop !))) (look-in ! 0 (sub ! 0 refl (whole !))))) (from ! (stop !)) (init ! 3 refl (tt, (record { fits = next-fits n i t a ok (e .2) }, tt))) $
-        assigns ! (agg ! (and-then ! (load ! (from ! (fld ! refl (stop !))) (look-in ! 7 (sub ! 0 refl (whole !)))) (and-then ! (load ! (from ! (fld ! refl (stop !))) (look-in ! 7 (sub ! 1 refl (whole !)))) (and-then ! (load ! (from ! (stop !)) (look ! 3 refl)) (no-more !))))) (from ! (stop !))
-        (init ! 18 refl (tt, ((record { fits = first-fits n i t a ok (e .0) }, tt), ((record { fits = tone-fits n i t a ok (e .1) }, tt), ((record { fits = next-fits n i t a ok (e .2) }, tt), tt))))) $
+        assigns ! (of-opd ! (load ! (from ! (stop !)) (look ! 0 refl))) (from ! (stop !)) (init ! 3 refl (tt, ((record { fits = next-fits n i t a ok (e .1) }, tt), tt))) $
+        assigns ! (agg ! (and-then ! (load ! (from ! (stop !)) (look ! 7 refl)) (and-then ! (load ! (from ! (stop !)) (look ! 3 refl)) (no-more !)))) (from ! (stop !))
+        (init ! 18 refl (LL.lawful R.the-type R′.the-laws 𝓤 H A W .typed (answer r (zs .0)) _ (made-r r (zs .0) w is e) .0)) $
         returns ! (look ! 18 refl) $ forget ! 0 refl $ forget ! 3 refl $ forget ! 5 refl $ forget ! 7 refl $ forget ! 10 refl $ forget ! 12 refl $ forget ! 14 refl $ forget ! 16 refl $ forget ! 18 refl $
         move ! (18 ∷ 19 ∷ []) $ free1 ! $ move ! (16 ∷ 17 ∷ []) $ free1 ! $ move ! (14 ∷ 15 ∷ []) $ free1 ! $ move ! (12 ∷ 13 ∷ []) $ free1 ! $ move ! (10 ∷ 11 ∷ []) $ free1 ! $ move ! (0 ∷ 9 ∷ []) $ free1 ! $
         move ! (6 ∷ 7 ∷ []) $ free1 ! $ move ! (4 ∷ 5 ∷ []) $ free1 ! $ move ! (2 ∷ 3 ∷ []) $ free1 ! $ free0 ! $
-        keep ! (0 ∷ []) $ by ! (exits r (zs .0) e))))))))))))))))))
+        keep ! (0 ∷ []) $ by ! (exits r (zs .0) e (made-r r (zs .0) w is e)))))))))))))))))))
 
 module _ {M : Type 1} (𝓤 : URA M) (H : Heap 𝓤) (A : Atoms 𝓤) (W : Given 𝓤 H A) (at-mem : Memory → SProp 𝓤) (run : Routine → Fun 𝓤) where
-  gain-from-walks : (C : Calls 𝓤 H) (Λ : Loops 𝓤 H) → FmC 𝓤 H (W .laws) C → Triple 𝓤 (C #gain-positions·place-gain) (Lent 𝓤 H A at-mem run) → Walks 𝓤 H A gain-from.ended stayed (WpFn 𝓤 H C Λ code.function) (gain-from.clauses 𝓤 H A at-mem run)
+  gain-from-walks : (C : Calls 𝓤 H) (Λ : Loops 𝓤 H) → FmC 𝓤 H (W .laws) C → Triple 𝓤 (C #places·gain·place-gain) (Lent 𝓤 H A at-mem run) → Walks 𝓤 H A gain-from.ended stayed (WpFn 𝓤 H C Λ code.function) (gain-from.clauses 𝓤 H A at-mem run)
   gain-from-walks C Λ fm known = walked 𝓤 H A gain-from.ended stayed (gain-from.clauses 𝓤 H A at-mem run) (WpFn 𝓤 H C Λ code.function)
-      (λ κs. (LL.vals P.the-type P′.the-laws, (uint-vals w8, (uint-vals w8, (uint-vals w8, tt))))) (λ κs. (LL.tells P.the-type P′.the-laws, (uint-tells w8, (uint-tells w8, (uint-tells w8, tt)))))
+      (λ κs. (LL.vals T.the-type T′.the-laws, (uint-vals w8, (uint-vals w8, (uint-vals w8, tt))))) (λ κs. (LL.tells T.the-type T′.the-laws, (uint-tells w8, (uint-tells w8, (uint-tells w8, tt)))))
       (λ κs qs bounds v _ are. needs 𝓤 _ _ (λ ok. walk 𝓤 H A W at-mem run (v .0) (v .1 .0) (v .1 .1 .0) (v .1 .1 .1 .0) (record { image = are .1 .0 .1; tone = are .1 .1 .0 .1; alternates = are .1 .1 .1 .0 .1 }) ok C Λ fm known))
 
   goes : AllGo 𝓤 H A W 0 (gain-from.signature .params) (gain-from.ended .kept) stayed
-  goes = (goes-none 𝓤 H A W 0 (λ _. P.the-row) yes (λ κs x f. refl), (goes-none 𝓤 H A W 0 (λ _. u8) yes (λ κs x f. refl), (goes-none 𝓤 H A W 0 (λ _. u8) yes (λ κs x f. refl), (goes-none 𝓤 H A W 0 (λ _. u8) yes (λ κs x f. refl), tt))))
+  goes = (goes-none 𝓤 H A W 0 (λ _. T.the-row) yes (λ κs x f. refl), (goes-none 𝓤 H A W 0 (λ _. u8) yes (λ κs x f. refl), (goes-none 𝓤 H A W 0 (λ _. u8) yes (λ κs x f. refl), (goes-none 𝓤 H A W 0 (λ _. u8) yes (λ κs x f. refl), tt))))
 
-gain-from-meets : {M : Type 1} (𝓤 : URA M) (H : Heap 𝓤) (A : Atoms 𝓤) → Given 𝓤 H A → (at-mem : Memory → SProp 𝓤) (run : Routine → Fun 𝓤) (𝓣 : Tables 𝓤 H) → Triple 𝓤 (𝓣 .C #gain-positions·place-gain) (Lent 𝓤 H A at-mem run)
+gain-from-meets : {M : Type 1} (𝓤 : URA M) (H : Heap 𝓤) (A : Atoms 𝓤) → Given 𝓤 H A → (at-mem : Memory → SProp 𝓤) (run : Routine → Fun 𝓤) (𝓣 : Tables 𝓤 H) → Triple 𝓤 (𝓣 .C #places·gain·place-gain) (Lent 𝓤 H A at-mem run)
     → Meets 𝓤 H A gain-from.signature (WpFn 𝓤 H (𝓣 .C) (𝓣 .Λ) code.function) (gain-from.spec 𝓤 H A at-mem run)
 gain-from-meets 𝓤 H A W at-mem run 𝓣 known =
     walk-meets 𝓤 H A gain-from.ended stayed W (goes 𝓤 H A W at-mem run) (gain-from.clauses 𝓤 H A at-mem run) (WpFn 𝓤 H (𝓣 .C) (𝓣 .Λ) code.function) (WpFn-mono 𝓤 H (W .laws) 𝓣 code.function)
@@ -199,6 +191,6 @@ pub gain-from-spec : {M : Type 1} → stated.statement M
 unfolding code.routine tablesOf
 gain-from-spec 𝓤 H 𝓜 𝓖 𝓡 =
     entered 𝓤 H (tripleOf 𝓤 H (𝓖 .A) gain-from.signature (gain-from.spec 𝓤 H (𝓖 .A) (𝓜 .mem) (𝓡 .run)))
-    (tables 𝓤 H 𝓜 𝓡 code.env .C) (tables 𝓤 H 𝓜 𝓡 code.env .Λ) #gain-positions·gain-from code.function (code.unfolded 𝓤 H 𝓜 𝓡)
+    (tables 𝓤 H 𝓜 𝓡 code.env .C) (tables 𝓤 H 𝓜 𝓡 code.env .Λ) #places·gain·gain-from code.function (code.unfolded 𝓤 H 𝓜 𝓡)
     (gain-from-meets 𝓤 H (𝓖 .A) (givenOf 𝓤 H 𝓜 𝓖) (𝓜 .mem) (𝓡 .run) (tablesOf 𝓤 H 𝓜 (tables 𝓤 H 𝓜 𝓡 code.env))
-    (cited 𝓤 H (Lent 𝓤 H (𝓖 .A) (𝓜 .mem) (𝓡 .run)) 𝓜 𝓡 code.env #gain-positions·place-gain lent-def.routine code.calls-gain-positions·place-gain (lent-thm.met 𝓤 H 𝓜 𝓖 𝓡)))
+    (cited 𝓤 H (Lent 𝓤 H (𝓖 .A) (𝓜 .mem) (𝓡 .run)) 𝓜 𝓡 code.env #places·gain·place-gain lent-def.routine code.calls-places·gain·place-gain (lent-thm.met 𝓤 H 𝓜 𝓖 𝓡)))
