@@ -16,8 +16,7 @@ use Rattle.panel.specs.File.{hdlr, pitm, grpl, idat}
 use Rattle.panel.specs.declared.GridDims.{GridDims}
 use Rattle.panel.specs.declared.Shape.{Shape}
 use Rattle.length.specs.Properties.{ipco-size}
-use Rattle.length.specs.Size.{iloc-size, iinf-size, iref-size}
-use Rattle.grids.specs.Descriptors.{descriptor-size}
+use Rattle.length.specs.Size.{iloc-size, iinf-size, iref-size, descriptor-size}
 use Rattle.boxes.specs.Runs.{Shaped}
 use Rattle.offsets.specs.declared.Layout.{Layout}
 use Rattle.places.specs.Roles.{its-of}

@@ -10,7 +10,7 @@ ghost use Rattle.panel.specs.Forms.{form-of};
 ghost use Rattle.panel.specs.Of.{panel-of};
 ghost use Rattle.panel.specs.File.{idat};
 ghost use Rattle.length.specs.Properties.{pictures};
-ghost use Rattle.grids.specs.Descriptors.{descriptor-size, Sided};
+ghost use Rattle.grids.specs.Descriptors.{Sided};
 ghost use Rattle.isobmff.specs.Locations.{other-sizes, placed};
 ghost use Rattle.isobmff.specs.Parts.{lent-props};
 ghost use Rattle.places.specs.Roles.{Fit};
