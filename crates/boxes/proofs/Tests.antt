@@ -8,7 +8,7 @@ use lib.ListN.{length}
 use Rattle.octets.specs.Numbers.{_‖_, be, text}
 use Rattle.octets.specs.Boxes.{Box, box}
 use Rattle.panel.specs.File.{rext}
-use Rattle.boxes.specs.Sizes.{brand}
+use Rattle.boxes.specs.Brands.{brand}
 
 -- ---- records
 

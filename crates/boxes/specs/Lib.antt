@@ -1,2 +1,2 @@
-pub mod Sizes
+pub mod Brands
 pub mod Runs

@@ -8,7 +8,8 @@ ghost use Rattle.octets.specs.Numbers.{_‖_, be, text};
 ghost use Rattle.octets.specs.Stores.{Wrote, Boxed};
 ghost use Rattle.panel.specs.Items.{given};
 ghost use Rattle.panel.specs.File.{rext, ftyp};
-ghost use Rattle.boxes.specs.Sizes.{brand, ftyp-size};
+ghost use Rattle.length.specs.Size.{ftyp-size};
+ghost use Rattle.boxes.specs.Brands.{brand};
 use octets::put;
 use octets::w32;
 use octets::write_box;
@@ -66,9 +67,9 @@ pub fn write_ftyp(
     gain: bool,
     tone: bool,
 ) -> usize
-    requires { ⌜ at + ftyp-size color gain tone ≤ length (now out) ⌝ }
-    requires { ⌜ size ≡ ftyp-size color gain tone ⌝ }
-    ensures { λ r. ⌜ Boxed (now (out .entry)) at (ftyp-size color gain tone) (ftyp color gain tone ∷ []) (now (out .exit)) r ⌝ }
+    requires { ⌜ at + (8 + ftyp-size color gain tone) ≤ length (now out) ⌝ }
+    requires { ⌜ size ≡ 8 + ftyp-size color gain tone ⌝ }
+    ensures { λ r. ⌜ Boxed (now (out .entry)) at (8 + ftyp-size color gain tone) (ftyp color gain tone ∷ []) (now (out .exit)) r ⌝ }
 {
     let a = write_box(out, at, size, b"ftyp");
     let b = write_brands(out, a, color);
