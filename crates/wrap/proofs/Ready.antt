@@ -20,13 +20,12 @@ use Rattle.panel.specs.declared.Shape.{Shape}
 use Rattle.panel.proofs.Accepted.{Accepted, accepted}
 use Rattle.length.specs.Parts.{Even}
 use Rattle.length.specs.Properties.{ipma-size}
-use Rattle.length.specs.Size.{iloc-size, iinf-size, iref-size, mdat-size, size}
+use Rattle.length.specs.Size.{ftyp-size, iloc-size, iinf-size, iref-size, mdat-size, size}
 use Rattle.length.proofs.Boxes.{length-iloc, length-iinf, length-iref}
 use Rattle.length.proofs.Properties.{length-ipco, length-ipma}
 use Rattle.length.proofs.File.{length-head, length-iprp, length-idat, length-meta, length-mdat, data-at-size, length-file, even-accepted}
 use Rattle.boxes.specs.Runs.{Shaped}
 use Rattle.grids.specs.Descriptors.{Sided}
-use Rattle.boxes.specs.Sizes.{ftyp-size}
 use Rattle.gain_map.specs.Data.{gain-data-size}
 use Rattle.offsets.specs.Laid.{Laid}
 use Rattle.offsets.specs.declared.Layout.{Layout}
@@ -133,10 +132,10 @@ module _ (n : Numbers) (l : Lent) where
         = omega (arith, e .meta, length-meta w (data-at w p) p even, ipco-size-parts n l, its-ipma) in
         x ∙ (λ i. 12 + (item-boxes-size w (at i) + property-boxes-size w q (at i) z (same-dims i)))
 
-    pub ftyp-sum : y .ftyp ≡ ftyp-size (y .«color_rext») (y .«gain_rext») (y .shape .tone)
+    pub ftyp-sum : y .ftyp ≡ 8 + ftyp-size (y .«color_rext») (y .«gain_rext») (y .shape .tone)
     ftyp-sum =
-        let x : y .ftyp ≡ ftyp-size (rext (p .tiles .config)) (gain-rext (p .gain)) (shape p .tone) = omega (arith, e .ftyp, length-head p) in
-        x ∙ sym (λ i. ftyp-size (e .color-rext i) (e .gain-rext i) (e .items i .tone))
+        let x : y .ftyp ≡ 8 + ftyp-size (rext (p .tiles .config)) (gain-rext (p .gain)) (shape p .tone) = omega (arith, e .ftyp, length-head p) in
+        x ∙ sym (λ i. 8 + ftyp-size (e .color-rext i) (e .gain-rext i) (e .items i .tone))
 
     its-mdat : 8 + mdat-size p ≡ mdat-bytes
     its-mdat = sym (ap (λ (k : ℕ). 8 + k) (mdat-sum n l))
@@ -183,7 +182,7 @@ module _ (n : Numbers) (l : Lent) where
         )
 
     -- the whole file
-    pub file-sum : length (file w p) ≡ ftyp-size (y .«color_rext») (y .«gain_rext») (y .shape .tone)
+    pub file-sum : length (file w p) ≡ (8 + ftyp-size (y .«color_rext») (y .«gain_rext») (y .shape .tone))
         + ((12 + (item-boxes-size w (y .shape) + property-boxes-size w q (y .shape) z (n .dims))) + mdat-bytes)
     file-sum =
         let x : length (file w p) ≡ y .ftyp + (y .meta + mdat-bytes)
