@@ -9,7 +9,7 @@ use Rattle.panel.specs.declared.color.Part.{Part}
 use Rattle.panel.specs.declared.color.Part.the-variants.{Absent, Present}
 use Rattle.panel.specs.declared.gain_map.MaybeGainMap.{MaybeGainMap}
 use Rattle.panel.specs.declared.gain_map.MaybeGainMap.the-variants as G
-use Rattle.properties.specs.Sizes.{alternates-size}
+use Rattle.length.specs.Properties.{alternates-size}
 
 abbrev pub tone-properties-size : Part → Option Colour → ℕ
 tone-properties-size Absent alternate = 0

@@ -9,7 +9,7 @@ ghost use Rattle.octets.specs.Stores.{Boxed};
 ghost use Rattle.panel.specs.Types.{bits};
 ghost use Rattle.panel.specs.Of.{Lent, part, alternate-of, gain-of};
 ghost use Rattle.panel.specs.Ipco.{nclx-payload, ispe, pixi, auxC, alternates, tone-slots, gain-slots, held};
-ghost use Rattle.properties.specs.Sizes.{alternates-size};
+ghost use Rattle.length.specs.Properties.{alternates-size};
 ghost use Rattle.gain_map.specs.Properties.{tone-properties-size, gain-properties-size};
 use panel::color::MaybeColorMetadata;
 use panel::color::Part;

@@ -16,62 +16,27 @@ use Rattle.panel.specs.Items.{has, exif-payload, gain-payloads}
 use Rattle.panel.specs.Ipco.{Role, second-colr, pixi, irot-payload, imir-payload, clli-payload, tone-ispe, tone-slots, gain-slots, held, ipco}
 use Rattle.panel.specs.File.{mdat}
 use Rattle.panel.specs.declared.Panel.{Panel as Numbers}
-use Rattle.panel.specs.declared.color.Cicp.{Cicp}
 use Rattle.panel.specs.declared.color.Part.{Part}
 use Rattle.panel.specs.declared.color.Part.the-variants.{Absent, Present}
 use Rattle.panel.specs.declared.gain_map.MaybeGainMap.{MaybeGainMap}
 use Rattle.panel.specs.declared.gain_map.MaybeGainMap.the-variants as G
-use Rattle.panel.specs.declared.metadata.ContentLightLevel.{ContentLightLevel}
 use Rattle.panel.proofs.Payloads.{flatten-samples, cut}
 use Rattle.length.specs.Parts.{long}
-use Rattle.length.specs.Properties.{ipco-size}
+use Rattle.length.specs.Properties.{alternates-size, ipco-size}
 use Rattle.length.specs.Properties as L
 use Rattle.length.specs.Size.{mdat-size}
 use Rattle.length.specs.Size as S
 use Rattle.length.proofs.Properties.{length-ipco}
-use Rattle.properties.specs.Sizes.{first-colr-size, second-colr-size, stated-size, alternates-size, irot-size, imir-size, clli-size}
 use Rattle.gain_map.specs.Properties.{tone-properties-size, gain-properties-size}
 use Rattle.gain_map.specs.Data.{gain-data, gain-data-size}
 use Rattle.gain_map.specs.Data as D
 use Rattle.isobmff.specs.Parts.{lent-props, color-properties, color-properties-size, alpha-properties, alpha-properties-size, optional-properties, optional-properties-size, exif-bytes, exif-size}
 
--- ---- sizes of properties, as the writers and as the length state them
+-- ---- sizes of the gain map's properties, as the writers and as the length state them
 
-same-first : (c : Option Cicp) (i : Option (List ℕ)) → first-colr-size c i ≡ L.first-colr-size c i
-same-first (some c) i = refl
-same-first none (some i) = refl
-same-first none none = refl
-
-same-second : (c : Option Cicp) (i : Option (List ℕ)) → second-colr-size c i ≡ L.second-colr-size c i
-same-second (some c) none = refl
-same-second (some c) (some i) = refl
-same-second none i = refl
-
-same-alternates : (a : Option Colour) → alternates-size a ≡ L.alternates-size a
-same-alternates none = refl
-same-alternates (some a) = stated (a .cicp) (a .icc)
-  where
-    stated : (c : Option Cicp) (i : Option (List ℕ)) → stated-size c i ≡ cond (has c) 19 0 + cond (has i) 12 0 + long i
-    stated (some c) none = refl
-    stated (some c) (some i) = omega arith
-    stated none (some i) = omega arith
-    stated none none = refl
-
-same-irot : (k : ℕ) → irot-size k ≡ 9 * cond (has (irot-payload k)) 1 0
-same-irot zero = refl
-same-irot (suc k) = refl
-
-same-imir : (a : Option Bool) → imir-size a ≡ 9 * cond (has (imir-payload a)) 1 0
-same-imir none = refl
-same-imir (some a) = refl
-
-same-clli : (l : Option ContentLightLevel) → clli-size l ≡ 12 * cond (has l) 1 0
-same-clli none = refl
-same-clli (some l) = refl
-
-same-tone : (p : Part) (t : List ℕ) (a : Option Colour) → tone-properties-size p a ≡ cond (has (part p t)) (20 + 16 + L.alternates-size a) 0
+same-tone : (p : Part) (t : List ℕ) (a : Option Colour) → tone-properties-size p a ≡ cond (has (part p t)) (20 + 16 + alternates-size a) 0
 same-tone Absent t a = refl
-same-tone Present t a = ap (λ (k : ℕ). 36 + k) (same-alternates a)
+same-tone Present t a = refl
 
 same-gain : (g : MaybeGainMap) (l : Lent) → gain-properties-size g (l .gain-hvcc) (l .alternate-icc) ≡ L.gain-properties-size (gain-of g l)
 same-gain G.None l = refl
@@ -130,17 +95,7 @@ module _ (n : Numbers) (l : Lent) where
       color-properties-size (l .tiles .config) c + (alpha-properties-size (l .alpha .config) + (optional-properties-size c (n .metadata) + gain-properties-size (n .«gain_map») (l .gain-hvcc) (l .alternate-icc))) ≡ ipco-size (panel-of n l)
   unfolding panel-of
   ipco-sum =
-      let c = colour-of (n .«color_meta») (l .icc) in
-      let m = n .metadata in
-      omega (
-        arith,
-        same-first (c .cicp) (c .icc),
-        same-second (c .cicp) (c .icc),
-        same-irot (irot-steps (m .orientation)),
-        same-imir (imir-axis (m .orientation)),
-        same-clli (light-of (m .«content_light_level»)),
-        same-gain (n .«gain_map») l,
-      )
+      omega (arith, same-gain (n .«gain_map») l)
 
 -- whatever the bytes of a tone map
 same-tone-slots : (x y : Box) (p : Part) (t u : List ℕ) (a : Option Colour) → tone-slots x y (part p t) a ≡ tone-slots x y (part p u) a

@@ -12,7 +12,7 @@ use Rattle.panel.specs.Ipco.{first-colr, second-colr, ispe, pixi, auxC, irot-pa
 use Rattle.panel.specs.declared.GridDims.{GridDims}
 use Rattle.panel.specs.declared.fmt.BitDepth.{BitDepth}
 use Rattle.panel.specs.declared.metadata.Metadata.{Metadata}
-use Rattle.properties.specs.Sizes.{first-colr-size, second-colr-size, irot-size, imir-size, clli-size}
+use Rattle.length.specs.Properties.{first-colr-size, second-colr-size, irot-size, imir-size, clli-size}
 
 -- ---- ipco
 

@@ -20,9 +20,9 @@ use Rattle.panel.specs.Ipma.{positions, essential, Association, _with_, each, g
 use Rattle.panel.specs.declared.color.Cicp.{Cicp}
 use Rattle.panel.specs.declared.metadata.ContentLightLevel.{ContentLightLevel}
 use Rattle.panel.proofs.Ids.{length-ids-from}
-use Rattle.length.specs.Parts.{long}
-use Rattle.length.specs.Properties.{first-colr-size, second-colr-count, second-colr-size, alternates-count, alternates-size}
-use Rattle.length.specs.Properties.{turn-count, gain-properties-size, ipco-size, pictures, gain-association-count, association-count, ipma-size}
+use Rattle.length.specs.Properties.{first-colr-size, second-colr-count, second-colr-size, alternates-count, stated-size, alternates-size}
+use Rattle.length.specs.Properties.{turn-count, irot-size, imir-size, clli-size, tone-properties-size, gain-properties-size, ipco-size}
+use Rattle.length.specs.Properties.{pictures, gain-association-count, association-count, ipma-size}
 use Rattle.length.proofs.Items.{length-associations}
 
 -- ---- the boxes of a role
@@ -60,17 +60,17 @@ pub length-boxes-alternates : (a : Option Colour) → length (boxes (alternates 
 length-boxes-alternates none = length-none
 length-boxes-alternates (some a) = stated (a .cicp) (a .icc)
   where
-    stated : (c : Option Cicp) (i : Option (List ℕ)) → length (boxes (alternate-colrs c i)) ≡ cond (has c) 19 0 + cond (has i) 12 0 + long i
+    stated : (c : Option Cicp) (i : Option (List ℕ)) → length (boxes (alternate-colrs c i)) ≡ stated-size c i
     stated (some c) none = simp (length-boxes, length-none)
     stated (some c) (some i) = simp (length-boxes, length-none) (omega arith)
     stated none (some i) = simp (length-boxes, length-none) (omega arith)
     stated none none = length-none
 
-pub length-boxes-irot : (k : ℕ) → length (boxes (optional "irot" (irot-payload k))) ≡ 9 * cond (has (irot-payload k)) 1 0
+pub length-boxes-irot : (k : ℕ) → length (boxes (optional "irot" (irot-payload k))) ≡ irot-size k
 length-boxes-irot zero = length-none
 length-boxes-irot (suc k) = simp (length-boxes, length-none)
 
-pub length-boxes-imir : (a : Option Bool) → length (boxes (optional "imir" (imir-payload a))) ≡ 9 * cond (has (imir-payload a)) 1 0
+pub length-boxes-imir : (a : Option Bool) → length (boxes (optional "imir" (imir-payload a))) ≡ imir-size a
 length-boxes-imir none = length-none
 length-boxes-imir (some a) = simp (length-boxes, length-none)
 
@@ -78,7 +78,7 @@ length-clli : (l : Option ContentLightLevel) → length (optional "clli" (clli-p
 length-clli none = refl
 length-clli (some l) = refl
 
-pub length-boxes-clli : (l : Option ContentLightLevel) → length (boxes (optional "clli" (clli-payload l))) ≡ 12 * cond (has l) 1 0
+pub length-boxes-clli : (l : Option ContentLightLevel) → length (boxes (optional "clli" (clli-payload l))) ≡ clli-size l
 length-boxes-clli none = length-none
 length-boxes-clli (some l) = simp (length-boxes, length-none)
 
@@ -87,7 +87,7 @@ length-boxes-clli (some l) = simp (length-boxes, length-none)
 -- whatever the size and the depth that the tone map's properties state
 module _ (w h depth : ℕ) where
   length-boxes-tone-slots : (t : Option (List ℕ)) (a : Option Colour)
-      → length (boxes (held (tone-slots (ispe w h) (pixi 3 depth) t a))) ≡ cond (has t) (20 + 16 + alternates-size a) 0
+      → length (boxes (held (tone-slots (ispe w h) (pixi 3 depth) t a))) ≡ tone-properties-size t a
   length-boxes-tone-slots none a = length-none
   length-boxes-tone-slots (some t) a = simp (length-boxes, append-nil, length-boxes-alternates) (omega arith)
 

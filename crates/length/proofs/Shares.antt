@@ -17,8 +17,8 @@ use Rattle.panel.specs.declared.GridDims.{GridDims}
 use Rattle.panel.specs.declared.color.Cicp.{Cicp}
 use Rattle.panel.proofs.Accepted.{accepted}
 use Rattle.length.specs.Parts.{Even, long}
-use Rattle.length.specs.Properties.{first-colr-size, second-colr-count, second-colr-size, alternates-count, alternates-size, turn-count}
-use Rattle.length.specs.Properties.{gain-properties-size, gain-association-count}
+use Rattle.length.specs.Properties.{first-colr-size, second-colr-count, second-colr-size, alternates-count, stated-size, alternates-size, turn-count}
+use Rattle.length.specs.Properties.{tone-properties-size, gain-properties-size, gain-association-count}
 use Rattle.length.specs.Size.{reference-size, idat-size, gain-data-size, size}
 use Rattle.length.specs.Shares.{Extra, wide-grid, alternate-cicp, share, exif-extras, colour-extras, profile-extras, alternate-extras}
 use Rattle.length.specs.Shares.{tone-extras, gain-extras, extras, bare, replaced-colr, replaced, meetings}
@@ -66,7 +66,7 @@ alternate-shares (some a) = stated (a .cicp) (a .icc)
   where
     stated : (c : Option Cicp) (i : Option (List ℕ))
         → shares (given (has c) (alternate-cicp ∷ []) ‖ profile-extras i)
-        ≡ cond (has c) 19 0 + cond (has i) 12 0 + long i + (cond (has c) 1 0 + cond (has i) 1 0)
+        ≡ stated-size c i + (cond (has c) 1 0 + cond (has i) 1 0)
     stated none none = refl
     stated none (some i) = omega arith
     stated (some c) none = refl
@@ -75,7 +75,7 @@ alternate-shares (some a) = stated (a .cicp) (a .icc)
 -- ftyp; iloc and iinf; iref; ipco; ipma; grpl; mdat
 tone-shares : (t : Option (List ℕ)) (a : Option Colour)
     → shares (tone-extras t a)
-    ≡ cond (has t) 4 0 + (16 + 21) * cond (has t) 1 0 + cond (has t) (reference-size ordinary 2) 0 + cond (has t) (20 + 16 + alternates-size a) 0
+    ≡ cond (has t) 4 0 + (16 + 21) * cond (has t) 1 0 + cond (has t) (reference-size ordinary 2) 0 + tone-properties-size t a
     + (3 * cond (has t) 1 0 + cond (has t) (2 + alternates-count a) 0) + cond (has t) 36 0 + long t
 tone-shares none a = refl
 tone-shares (some t) a = omega (arith, alternate-shares a)

@@ -1,5 +1,5 @@
 -- The lengths of the bodies of ipco and ipma as sums of numbers: how many properties there are, how long, and how many each item has.
-use mathlib.Core.Bool.{cond}
+use mathlib.Core.Bool.{Bool, cond}
 use mathlib.Core.Option.{Option, none, some}
 use mathlib.Core.List.{List}
 use Prim.Native.Nat.{ℕ, _+_, _*_}
@@ -10,6 +10,7 @@ use Rattle.panel.specs.Items.{Form, has, shape}
 use Rattle.panel.specs.Ipco.{irot-payload, imir-payload}
 use Rattle.panel.specs.declared.Shape.{Shape}
 use Rattle.panel.specs.declared.color.Cicp.{Cicp}
+use Rattle.panel.specs.declared.metadata.ContentLightLevel.{ContentLightLevel}
 use Rattle.panel.specs.declared.metadata.Orientation.{Orientation}
 use Rattle.length.specs.Parts.{long}
 
@@ -20,24 +21,32 @@ first-colr-size (some c) icc = 19
 first-colr-size none (some i) = 12 + length i
 first-colr-size none none = 19
 
+-- a profile, where it is present
+abbrev pub profile-size : Option (List ℕ) → ℕ
+profile-size icc = cond (has icc) 12 0 + long icc
+
 -- a profile beside code points
 abbrev pub second-colr-count : Option Cicp → Option (List ℕ) → ℕ
 second-colr-count (some c) icc = cond (has icc) 1 0
 second-colr-count none icc = 0
 
 abbrev pub second-colr-size : Option Cicp → Option (List ℕ) → ℕ
-second-colr-size (some c) icc = cond (has icc) 12 0 + long icc
+second-colr-size (some c) icc = profile-size icc
 second-colr-size none icc = 0
 
 abbrev pub alternates-count : Option Colour → ℕ
 alternates-count none = 0
 alternates-count (some a) = cond (has (a .cicp)) 1 0 + cond (has (a .icc)) 1 0
 
+-- what an alternate colour states
+abbrev pub stated-size : Option Cicp → Option (List ℕ) → ℕ
+stated-size cicp icc = cond (has cicp) 19 0 + cond (has icc) 12 0 + long icc
+
 abbrev pub alternates-size : Option Colour → ℕ
 alternates-size none = 0
-alternates-size (some a) = cond (has (a .cicp)) 19 0 + cond (has (a .icc)) 12 0 + long (a .icc)
+alternates-size (some a) = stated-size (a .cicp) (a .icc)
 
--- the transforms of an orientation
+-- the transforms of an orientation, and how many bytes each takes
 abbrev pub irot-count : Orientation → ℕ
 irot-count o = cond (has (irot-payload (irot-steps o))) 1 0
 
@@ -47,10 +56,26 @@ imir-count o = cond (has (imir-payload (imir-axis o))) 1 0
 abbrev pub turn-count : Orientation → ℕ
 turn-count o = irot-count o + imir-count o
 
--- hvcC, ispe, pixi, auxC and colr of the gain image; ispe, pixi and the alternate colours of the tone map
+abbrev pub irot-size : ℕ → ℕ
+irot-size steps = 9 * cond (has (irot-payload steps)) 1 0
+
+abbrev pub imir-size : Option Bool → ℕ
+imir-size axis = 9 * cond (has (imir-payload axis)) 1 0
+
+abbrev pub clli-size : Option ContentLightLevel → ℕ
+clli-size light = 12 * cond (has light) 1 0
+
+-- hvcC, ispe, pixi, auxC and colr of the gain image
+abbrev pub image-properties-size : List ℕ → ℕ
+image-properties-size config = (8 + length config) + 20 + 14 + 52 + 19
+
+-- ispe, pixi and the alternate colours of the tone map, where there is one
+abbrev pub tone-properties-size : Option (List ℕ) → Option Colour → ℕ
+tone-properties-size tone alternate = cond (has tone) (20 + 16 + alternates-size alternate) 0
+
 abbrev pub gain-properties-size : Option Gain → ℕ
 gain-properties-size none = 0
-gain-properties-size (some g) = (8 + length (g .config)) + 20 + 14 + 52 + 19 + cond (has (g .tone)) (20 + 16 + alternates-size (g .alternate)) 0
+gain-properties-size (some g) = image-properties-size (g .config) + tone-properties-size (g .tone) (g .alternate)
 
 -- hvcC, two ispe, colr and pixi of the colour; hvcC, pixi and auxC of alpha; what is present of the second colr, irot, imir and clli
 abbrev pub ipco-size : Panel → ℕ
@@ -58,7 +83,7 @@ ipco-size p =
     (8 + length (p .tiles .config)) + 20 + 20 + first-colr-size (p .colour .cicp) (p .colour .icc) + 16
     + (8 + length (p .alpha .config)) + 14 + 39
     + second-colr-size (p .colour .cicp) (p .colour .icc)
-    + 9 * irot-count (p .metadata .orientation) + 9 * imir-count (p .metadata .orientation) + 12 * cond (has (p .metadata .light)) 1 0
+    + irot-size (irot-steps (p .metadata .orientation)) + imir-size (imir-axis (p .metadata .orientation)) + clli-size (p .metadata .light)
     + gain-properties-size (p .gain)
 
 -- ---- ipma

@@ -6,7 +6,7 @@ use native.Mathlib.Omega.{arith}
 use Rattle.octets.specs.Numbers.{be}
 use Rattle.octets.specs.Boxes.{Box, box, optional}
 use Rattle.panel.specs.Ipco.{irot-payload}
-use Rattle.properties.specs.Sizes.{irot-size}
+use Rattle.length.specs.Properties.{irot-size}
 
 -- the boxes of so many steps are these, of so many bytes
 pub record Turned (steps : ℕ) (l : List Box) (n : ℕ) : Type 0 where

@@ -5,7 +5,7 @@ ghost use Rattle.octets.specs.Boxes.{optional};
 ghost use Rattle.octets.specs.Stores.{Boxed};
 ghost use Rattle.panel.specs.Of.{light-of};
 ghost use Rattle.panel.specs.Ipco.{clli-payload};
-ghost use Rattle.properties.specs.Sizes.{clli-size};
+ghost use Rattle.length.specs.Properties.{clli-size};
 use octets::w16;
 use octets::write_box;
 use panel::metadata::MaybeLightLevel;

@@ -10,7 +10,7 @@ ghost use Rattle.octets.specs.Boxes.{box, optional};
 ghost use Rattle.octets.specs.Stores.{Boxed};
 ghost use Rattle.panel.specs.Of.{cicp-of, part, alternate-of};
 ghost use Rattle.panel.specs.Ipco.{nclx-payload, first-colr, profile, second-colr, alternate-colrs, alternates};
-ghost use Rattle.properties.specs.Sizes.{first-colr-size, profile-size, second-colr-size, stated-size, alternates-size};
+ghost use Rattle.length.specs.Properties.{first-colr-size, profile-size, second-colr-size, stated-size, alternates-size};
 use octets::put;
 use octets::size_of;
 use octets::w8;

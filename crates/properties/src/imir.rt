@@ -7,7 +7,7 @@ ghost use Rattle.octets.specs.Boxes.{optional};
 ghost use Rattle.octets.specs.Stores.{Boxed};
 ghost use Rattle.panel.specs.Types.{maybe-axis};
 ghost use Rattle.panel.specs.Ipco.{imir-payload};
-ghost use Rattle.properties.specs.Sizes.{imir-size};
+ghost use Rattle.length.specs.Properties.{imir-size};
 use octets::w8;
 use octets::write_box;
 use panel::metadata::ImirAxis;

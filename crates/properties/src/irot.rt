@@ -4,7 +4,7 @@ ghost use lib.ListN.{length};
 ghost use Rattle.octets.specs.Boxes.{optional};
 ghost use Rattle.octets.specs.Stores.{Boxed};
 ghost use Rattle.panel.specs.Ipco.{irot-payload};
-ghost use Rattle.properties.specs.Sizes.{irot-size};
+ghost use Rattle.length.specs.Properties.{irot-size};
 use octets::w8;
 use octets::write_box;
 

@@ -6,7 +6,7 @@ use Rattle.octets.proofs.Stores.{kept, retold, _▸_}
 use mathlib.Core.Bool.{Bool}
 use Prim.Native.Nat.{ℕ}
 use Rattle.panel.specs.Ipco.{irot-payload, imir-payload}
-use Rattle.properties.specs.Sizes.{irot-size, imir-size}
+use Rattle.length.specs.Properties.{irot-size, imir-size}
 use mathlib.Core.Option.{Option}
 use Rattle.octets.specs.Boxes.{optional}
 use Rattle.isobmff.proofs.property.write_optional_properties.Statement.{statement}

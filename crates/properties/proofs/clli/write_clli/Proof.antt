@@ -3,7 +3,7 @@ use borrow.Author.Needs.{needs}
 use native.Mathlib.Omega.{arith}
 use mathlib.Core.Path.{refl, ap}
 use Rattle.octets.proofs.Stores.{_▹_, boxed, no-boxes}
-use Rattle.properties.specs.Sizes.{clli-size}
+use Rattle.length.specs.Properties.{clli-size}
 use Rattle.panel.specs.Of.{light-of}
 use Rattle.panel.specs.declared.metadata.MaybeLightLevel.{MaybeLightLevel}
 use Rattle.properties.proofs.clli.write_clli.Statement.{statement}

@@ -3,7 +3,7 @@ use borrow.Author.Needs.{needs}
 use native.Mathlib.Omega.{arith}
 use mathlib.Core.Path.{ap}
 use Rattle.octets.proofs.Stores.{no-boxes}
-use Rattle.properties.specs.Sizes.{alternates-size}
+use Rattle.length.specs.Properties.{alternates-size}
 use Rattle.panel.specs.Of.{alternate-of}
 use Rattle.panel.specs.declared.color.MaybeColorMetadata.{MaybeColorMetadata}
 use Rattle.properties.proofs.colr.write_alternate_colr.Statement.{statement}

@@ -2,7 +2,7 @@
 use borrow.Author.Needs.{needs}
 use native.Mathlib.Omega.{arith}
 use mathlib.Core.Path.{ap}
-use Rattle.properties.specs.Sizes.{first-colr-size}
+use Rattle.length.specs.Properties.{first-colr-size}
 use Rattle.panel.specs.Of.{cicp-of, part}
 use Rattle.panel.specs.declared.color.MaybeCicp.{MaybeCicp}
 use Rattle.properties.proofs.colr.write_colr.Statement.{statement}

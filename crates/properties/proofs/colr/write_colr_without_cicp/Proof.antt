@@ -3,7 +3,7 @@ use borrow.Author.Needs.{needs}
 use native.Mathlib.Omega.{arith}
 use mathlib.Core.Path.{refl, ap}
 use Rattle.octets.proofs.Stores.{retold}
-use Rattle.properties.specs.Sizes.{first-colr-size}
+use Rattle.length.specs.Properties.{first-colr-size}
 use Rattle.panel.specs.Of.{part}
 use Rattle.panel.specs.declared.color.Part.{Part}
 use mathlib.Core.Option.{none}

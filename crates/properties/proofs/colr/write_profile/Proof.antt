@@ -3,7 +3,7 @@ use borrow.Author.Needs.{needs}
 use native.Mathlib.Omega.{arith}
 use mathlib.Core.Path.{ap}
 use Rattle.octets.proofs.Stores.{no-boxes}
-use Rattle.properties.specs.Sizes.{profile-size}
+use Rattle.length.specs.Properties.{profile-size}
 use Rattle.panel.specs.Of.{part}
 use Rattle.panel.specs.declared.color.Part.{Part}
 use Rattle.properties.proofs.colr.write_profile.Statement.{statement}

@@ -3,7 +3,7 @@ use borrow.Author.Needs.{needs}
 use native.Mathlib.Omega.{arith}
 use mathlib.Core.Path.{ap}
 use Rattle.octets.proofs.Stores.{no-boxes}
-use Rattle.properties.specs.Sizes.{second-colr-size}
+use Rattle.length.specs.Properties.{second-colr-size}
 use Rattle.panel.specs.Of.{cicp-of, part}
 use Rattle.panel.specs.declared.color.MaybeCicp.{MaybeCicp}
 use Rattle.properties.proofs.colr.write_secondary_colr.Statement.{statement}

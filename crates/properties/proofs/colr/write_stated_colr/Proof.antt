@@ -1,9 +1,9 @@
 -- Code points and then a profile, or a profile, or nothing.
 use borrow.Author.Needs.{needs}
 use native.Mathlib.Omega.{arith}
-use mathlib.Core.Path.{ap}
-use Rattle.octets.proofs.Stores.{_▸_}
-use Rattle.properties.specs.Sizes.{stated-size}
+use mathlib.Core.Path.{refl, ap}
+use Rattle.octets.proofs.Stores.{retold, _▸_}
+use Rattle.length.specs.Properties.{stated-size}
 use Rattle.panel.specs.Of.{cicp-of, part}
 use Rattle.panel.specs.declared.color.MaybeCicp.{MaybeCicp}
 use Rattle.properties.proofs.colr.write_stated_colr.Statement.{statement}
@@ -29,12 +29,12 @@ returns : tie.Need-returns
 returns c =
     let c2 = c .before .before in
     let c1 = c2 .before .before .before .before in
-    rw (c .before .before .before .before .before .before .before .before .before .cicp .given .1) ((c1 .write-colr-nclx .ensures) ▸ (c2 .write-profile .ensures))
+    rw (c .before .before .before .before .before .before .before .before .before .cicp .given .1) (retold ((c1 .write-colr-nclx .ensures) ▸ (c2 .write-profile .ensures)) refl (omega arith))
 
 returns-2 : tie.Need-returns-2
 returns-2 c =
     let c1 = c .before .before in
-    rw (c .before .before .before .before .enum-told .given .1) (c1 .write-profile2 .ensures)
+    rw (c .before .before .before .before .enum-told .given .1) (retold (c1 .write-profile2 .ensures) refl (omega arith))
 
 pub write-stated-colr-spec : {M : Type 1} → statement M
 write-stated-colr-spec = tie.close (tie.spec (λ c. search needs) write-colr-nclx-requires write-profile-requires (λ c. search needs) write-profile-requires-2 (λ c. search needs) returns (λ c. search needs) returns-2)

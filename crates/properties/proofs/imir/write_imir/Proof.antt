@@ -3,7 +3,7 @@ use borrow.Author.Needs.{needs}
 use native.Mathlib.Omega.{arith}
 use mathlib.Core.Path.{refl, ap}
 use Rattle.octets.proofs.Stores.{told, boxed, no-boxes}
-use Rattle.properties.specs.Sizes.{imir-size}
+use Rattle.length.specs.Properties.{imir-size}
 use Rattle.panel.specs.declared.metadata.ImirAxis.{ImirAxis}
 use Rattle.panel.specs.Types.{maybe-axis}
 use Rattle.octets.specs.Numbers.{be}
