@@ -9,7 +9,7 @@ ghost use Rattle.octets.specs.Stores.{Boxed};
 ghost use Rattle.panel.specs.Forms.{form-of};
 ghost use Rattle.panel.specs.Of.{panel-of};
 ghost use Rattle.panel.specs.File.{idat};
-ghost use Rattle.length.specs.Properties.{pictures};
+ghost use Rattle.length.specs.Properties.{associated-items};
 ghost use Rattle.grids.specs.Descriptors.{Sided};
 ghost use Rattle.isobmff.specs.Locations.{other-sizes, placed};
 ghost use Rattle.isobmff.specs.Parts.{lent-props};
@@ -114,7 +114,7 @@ pub fn write_iprp(
     requires { ⌜ Item-sizes (form-of form) y ⌝ }
     requires { ⌜ Property-sizes (form-of form) (panel-of panel (lent-props (now «color_hvcc») (now «alpha_hvcc») (now icc) (now «gain_hvcc») (now «alternate_icc»))) y z (panel .dims) ⌝ }
     requires { ⌜ Fit z ⌝ }
-    requires { ⌜ count ≡ pictures (y .shape) ⌝ }
+    requires { ⌜ count ≡ associated-items (y .shape) ⌝ }
     ensures { λ r. ⌜ Boxed (now (out .entry)) at (iprp-bytes (form-of form) (panel-of panel (lent-props (now («color_hvcc» .entry)) (now («alpha_hvcc» .entry)) (now (icc .entry)) (now («gain_hvcc» .entry)) (now («alternate_icc» .entry)))) (y .shape) z) (iprp-of (form-of form) (panel-of panel (lent-props (now («color_hvcc» .entry)) (now («alpha_hvcc» .entry)) (now (icc .entry)) (now («gain_hvcc» .entry)) (now («alternate_icc» .entry)))) (y .shape) z ∷ []) (now (out .exit)) r ⌝ }
 {
     let s = y.shape;
@@ -152,7 +152,7 @@ pub fn write_property_boxes(
     requires { ⌜ Item-sizes (form-of form) y ⌝ }
     requires { ⌜ Property-sizes (form-of form) (panel-of panel (lent-props (now «color_hvcc») (now «alpha_hvcc») (now icc) (now «gain_hvcc») (now «alternate_icc»))) y z (panel .dims) ⌝ }
     requires { ⌜ Fit z ⌝ }
-    requires { ⌜ count ≡ pictures (y .shape) ⌝ }
+    requires { ⌜ count ≡ associated-items (y .shape) ⌝ }
     requires { ⌜ Sided (panel .dims) ⌝ }
     ensures { λ r. ⌜ Boxed (now (out .entry)) at (property-boxes-size (form-of form) (panel-of panel (lent-props (now («color_hvcc» .entry)) (now («alpha_hvcc» .entry)) (now (icc .entry)) (now («gain_hvcc» .entry)) (now («alternate_icc» .entry)))) (y .shape) z (panel .dims)) (property-boxes (form-of form) (panel-of panel (lent-props (now («color_hvcc» .entry)) (now («alpha_hvcc» .entry)) (now (icc .entry)) (now («gain_hvcc» .entry)) (now («alternate_icc» .entry)))) (y .shape) z (panel .dims)) (now (out .exit)) r ⌝ }
 {
@@ -200,7 +200,7 @@ pub fn write_meta(
     requires { ⌜ Item-sizes (form-of form) y ⌝ }
     requires { ⌜ Property-sizes (form-of form) (panel-of panel (lent-props (now «color_hvcc») (now «alpha_hvcc») (now icc) (now «gain_hvcc») (now «alternate_icc»))) y z (panel .dims) ⌝ }
     requires { ⌜ Fit z ⌝ }
-    requires { ⌜ count ≡ pictures (y .shape) ⌝ }
+    requires { ⌜ count ≡ associated-items (y .shape) ⌝ }
     requires { ⌜ Sided (panel .dims) ⌝ }
     requires { ⌜ y .meta ≡ 12 + (item-boxes-size (form-of form) (y .shape) + property-boxes-size (form-of form) (panel-of panel (lent-props (now «color_hvcc») (now «alpha_hvcc») (now icc) (now «gain_hvcc») (now «alternate_icc»))) (y .shape) z (panel .dims)) ⌝ }
     requires { ⌜ length (now «color_lengths») ≡ y .shape .tiles ⌝ }

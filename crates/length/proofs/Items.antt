@@ -1,4 +1,4 @@
--- How many items a file has: iloc and iinf have as many entries as the last id says, and ipma has one for each picture.
+-- How many items a file has: iloc and iinf have as many entries as the last id says, and ipma has one for each item that has properties.
 use mathlib.Core.Path.{_≡_, refl, ap, _∙_}
 use mathlib.Core.Bool.{cond}
 use mathlib.Core.Option.{Option, none, some}
@@ -17,7 +17,7 @@ use Rattle.panel.specs.declared.Shape.{Shape}
 use Rattle.panel.proofs.Ids.{length-ids-from, length-given}
 use Rattle.panel.proofs.Payloads.{length-samples, length-extents, length-located, locations-runs}
 use Rattle.length.specs.Parts.{Even}
-use Rattle.length.specs.Properties.{pictures}
+use Rattle.length.specs.Properties.{associated-items}
 
 -- ---- iloc
 
@@ -46,5 +46,5 @@ length-infes f s = simp (length-append, length-map, length-ids-from, length-give
 -- ---- ipma
 
 -- whatever positions the roles have
-pub length-associations : (s : Shape) (its : Role → List ℕ) → length (associations s its) ≡ pictures s
+pub length-associations : (s : Shape) (its : Role → List ℕ) → length (associations s its) ≡ associated-items s
 length-associations s its = simp (length-append, length-map, length-ids-from, length-given) (omega arith)

@@ -22,7 +22,7 @@ use Rattle.panel.specs.declared.metadata.ContentLightLevel.{ContentLightLevel}
 use Rattle.panel.proofs.Ids.{length-ids-from}
 use Rattle.length.specs.Properties.{first-colr-size, second-colr-count, second-colr-size, alternates-count, stated-size, alternates-size}
 use Rattle.length.specs.Properties.{turn-count, irot-size, imir-size, clli-size, tone-properties-size, gain-properties-size, ipco-size}
-use Rattle.length.specs.Properties.{pictures, gain-association-count, association-count, ipma-size}
+use Rattle.length.specs.Properties.{associated-items, gain-association-count, association-count, ipma-size}
 use Rattle.length.proofs.Items.{length-associations}
 
 -- ---- the boxes of a role
@@ -166,4 +166,4 @@ length-ipma f p =
     let its = positions 1 (slots p) in
     let l = associations (shape p) its in
     length-ipma-of f l ∙ ap (λ (n : ℕ). 8 + n * (1 + f .id) + total (map width l)) (length-associations (shape p) its)
-    ∙ ap (λ (n : ℕ). 8 + pictures (shape p) * (1 + f .id) + n) (width-associations p)
+    ∙ ap (λ (n : ℕ). 8 + associated-items (shape p) * (1 + f .id) + n) (width-associations p)

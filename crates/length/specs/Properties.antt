@@ -88,9 +88,9 @@ ipco-size p =
 
 -- ---- ipma
 
--- the tiles, the grids, the gain image and the tone map
-abbrev pub pictures : Shape → ℕ
-pictures s = 2 * s .tiles + 2 + cond (s .gain) 1 0 + cond (s .tone) 1 0
+-- how many items it names: the tiles, the grids, the gain image and the tone map
+abbrev pub associated-items : Shape → ℕ
+associated-items s = 2 * s .tiles + 2 + cond (s .gain) 1 0 + cond (s .tone) 1 0
 
 -- how many properties the gain image and the tone map have, where so many are transforms
 abbrev pub gain-association-count : ℕ → Option Gain → ℕ
@@ -105,4 +105,4 @@ association-count p =
     + gain-association-count turns (p .gain)
 
 abbrev pub ipma-size : Form → Panel → ℕ
-ipma-size f p = 8 + pictures (shape p) * (1 + f .id) + association-count p
+ipma-size f p = 8 + associated-items (shape p) * (1 + f .id) + association-count p
