@@ -6,7 +6,7 @@ ghost use lib.ListN.{length};
 ghost use Rattle.octets.specs.Stores.{Wrote, Boxed};
 ghost use Rattle.panel.specs.Forms.{form-of};
 ghost use Rattle.panel.specs.Ipma.{association, associations, ipma};
-ghost use Rattle.length.specs.Properties.{pictures};
+ghost use Rattle.length.specs.Properties.{associated-items};
 ghost use Rattle.places.specs.Roles.{its-of, Fit};
 ghost use Rattle.places.specs.Counts.{ipma-bytes, color-entries-size, alpha-entries-size};
 ghost use Rattle.boxes.specs.Runs.{Shaped};
@@ -98,7 +98,7 @@ pub fn write_ipma(
     requires { ⌜ Shaped s ⌝ }
     requires { ⌜ Fit y ⌝ }
     requires { ⌜ size ≡ ipma-bytes (form-of form) s y ⌝ }
-    requires { ⌜ count ≡ pictures s ⌝ }
+    requires { ⌜ count ≡ associated-items s ⌝ }
     ensures { λ r. ⌜ Boxed (now (out .entry)) at (ipma-bytes (form-of form) s y) (ipma (form-of form) (associations s (its-of y)) ∷ []) (now (out .exit)) r ⌝ }
 {
     let color = y.color;

@@ -8,7 +8,7 @@ ghost use lib.ListN.{length};
 ghost use Rattle.panel.specs.Of.{Lent, panel-of, part, cicp-of, light-of, alternate-of, gain-of};
 ghost use Rattle.panel.specs.Items.{has};
 ghost use Rattle.length.specs.Parts.{long};
-ghost use Rattle.length.specs.Properties.{first-colr-size, second-colr-size, alternates-size, irot-count, imir-count, gain-properties-size, ipco-size, pictures};
+ghost use Rattle.length.specs.Properties.{first-colr-size, second-colr-size, alternates-size, irot-count, imir-count, gain-properties-size, ipco-size, associated-items};
 ghost use Rattle.sizes.specs.Capped.{Capped, Length-of, Measured};
 use crate::lengths::Lengths;
 use checks::shape::has_cicp;
@@ -168,7 +168,7 @@ pub fn ipco_size(panel: Panel, y: Lengths) -> u64
 // How many items ipma names: the tiles, the grids, the gain image and the tone map.
 pub fn picture_count(s: Shape) -> u32
     requires { ⌜ s .tiles ≤ 65536 ⌝ }
-    ensures { λ r. ⌜ r ≡ pictures s ⌝ }
+    ensures { λ r. ⌜ r ≡ associated-items s ⌝ }
     ensures { λ r. ⌜ r ≤ 131076 ⌝ }
 {
     2 * s.tiles + 2 + when(s.gain, 1) + when(s.tone, 1)
