@@ -8,7 +8,7 @@ use native.Mathlib.Omega.{arith}
 use lib.ListN.{length}
 use Rattle.octets.specs.Numbers.{_‖_, total}
 use Rattle.octets.specs.Boxes.{Box, box, optional, boxes}
-use Rattle.octets.proofs.Lists.{flatten-append, flatten-one}
+use Rattle.octets.proofs.Lists.{flatten-append}
 use Rattle.panel.specs.Types.{bits, irot-steps, imir-axis}
 use Rattle.panel.specs.Panel.{Colour}
 use Rattle.panel.specs.Of.{Lent, part, colour-of, light-of, gain-of, alternate-of, panel-of}
@@ -24,13 +24,13 @@ use Rattle.panel.proofs.Payloads.{flatten-samples, cut}
 use Rattle.length.specs.Parts.{long}
 use Rattle.length.specs.Properties.{alternates-size, ipco-size}
 use Rattle.length.specs.Properties as L
-use Rattle.length.specs.Size.{mdat-size}
+use Rattle.length.specs.Size.{exif-size, mdat-size}
 use Rattle.length.specs.Size as S
 use Rattle.length.proofs.Properties.{length-ipco}
 use Rattle.gain_map.specs.Properties.{tone-properties-size, gain-properties-size}
 use Rattle.gain_map.specs.Data.{gain-data, gain-data-size}
 use Rattle.gain_map.specs.Data as D
-use Rattle.isobmff.specs.Parts.{lent-props, color-properties, color-properties-size, alpha-properties, alpha-properties-size, optional-properties, optional-properties-size, exif-bytes, exif-size}
+use Rattle.isobmff.specs.Parts.{lent-props, color-properties, color-properties-size, alpha-properties, alpha-properties-size, optional-properties, optional-properties-size}
 
 -- ---- sizes of the gain map's properties, as the writers and as the length state them
 
@@ -122,11 +122,6 @@ ipco-size-parts n l =
 
 -- ---- mdat
 
-flatten-exif : (e : Option (List ℕ)) → flatten (exif-payload e) ≡ exif-bytes e
-unfolding flatten
-flatten-exif none = refl
-flatten-exif (some e) = flatten-one _
-
 flatten-gain : (g : MaybeGainMap) (l : Lent) → flatten (gain-payloads (gain-of g l)) ≡ gain-data g (l .gain-sample) (l .gain-xmp) (l .gain-tmap)
 unfolding flatten
 flatten-gain G.None l = refl
@@ -134,19 +129,15 @@ flatten-gain (G.Some g) l = refl
 
 pub mdat-parts : (n : Numbers) (l : Lent) → total (l .tiles .lengths) ≡ length (l .tiles .bytes) → total (l .alpha .lengths) ≡ length (l .alpha .bytes)
     → mdat (panel-of n l)
-    ≡ box "mdat" (l .tiles .bytes ‖ l .alpha .bytes ‖ exif-bytes (part (n .metadata .exif) (l .exif)) ‖ gain-data (n .«gain_map») (l .gain-sample) (l .gain-xmp) (l .gain-tmap))
+    ≡ box "mdat" (l .tiles .bytes ‖ l .alpha .bytes ‖ flatten (exif-payload (part (n .metadata .exif) (l .exif))) ‖ gain-data (n .«gain_map») (l .gain-sample) (l .gain-xmp) (l .gain-tmap))
 unfolding panel-of
 mdat-parts n l h k =
     let exif = exif-payload (part (n .metadata .exif) (l .exif)) in
     let gain = gain-payloads (gain-of (n .«gain_map») l) in
-    let x = flatten-append exif gain ∙ (λ i. flatten-exif (part (n .metadata .exif) (l .exif)) i ++ flatten-gain (n .«gain_map») l i) in
+    let x = flatten-append exif gain ∙ ap (λ (r : List ℕ). flatten exif ++ r) (flatten-gain (n .«gain_map») l) in
     let y = flatten-append (cut (l .alpha)) (exif ++ gain) ∙ (λ i. flatten-samples (l .alpha .lengths) (l .alpha .bytes) k i ++ x i) in
     let z = flatten-append (cut (l .tiles)) (cut (l .alpha) ++ (exif ++ gain)) ∙ (λ i. flatten-samples (l .tiles .lengths) (l .tiles .bytes) h i ++ y i) in
     ap (box "mdat") z
-
-same-exif : (e : Option (List ℕ)) → exif-size e ≡ cond (has e) 4 0 + long e
-same-exif none = refl
-same-exif (some e) = refl
 
 same-long : (e : Option (List ℕ)) → D.long e ≡ long e
 same-long none = refl
@@ -160,4 +151,4 @@ pub mdat-sum : (n : Numbers) (l : Lent)
     → length (l .tiles .bytes) + (length (l .alpha .bytes) + (exif-size (part (n .metadata .exif) (l .exif)) + gain-data-size (n .«gain_map») (l .gain-sample) (l .gain-xmp) (l .gain-tmap)))
     ≡ mdat-size (panel-of n l)
 unfolding panel-of
-mdat-sum n l = omega (arith, same-exif (part (n .metadata .exif) (l .exif)), same-data (n .«gain_map») l)
+mdat-sum n l = omega (arith, same-data (n .«gain_map») l)

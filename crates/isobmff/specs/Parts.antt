@@ -1,9 +1,8 @@
--- What ipco and mdat are made of: a lending with the properties' bytes alone, the properties by picture and their sizes, and the Exif payload.
-use mathlib.Core.Option.{Option, none, some}
+-- What ipco is made of: a lending with the properties' bytes alone, and the properties by picture and their sizes.
 use mathlib.Core.List.{List, [], _∷_}
 use Prim.Native.Nat.{ℕ, _+_}
 use lib.ListN.{length}
-use Rattle.octets.specs.Numbers.{_‖_, be}
+use Rattle.octets.specs.Numbers.{_‖_}
 use Rattle.octets.specs.Boxes.{Box, box, optional}
 use Rattle.panel.specs.Types.{bits, irot-steps, imir-axis}
 use Rattle.panel.specs.Panel.{Colour}
@@ -13,8 +12,6 @@ use Rattle.panel.specs.declared.GridDims.{GridDims}
 use Rattle.panel.specs.declared.fmt.BitDepth.{BitDepth}
 use Rattle.panel.specs.declared.metadata.Metadata.{Metadata}
 use Rattle.length.specs.Properties.{first-colr-size, second-colr-size, irot-size, imir-size, clli-size}
-
--- ---- ipco
 
 -- the two decoder configuration records, the profile, the gain map's record and its alternate profile
 abbrev pub lent-props : List ℕ → List ℕ → List ℕ → List ℕ → List ℕ → Lent
@@ -57,14 +54,3 @@ optional-properties c m =
 abbrev pub optional-properties-size : Colour → Metadata → ℕ
 optional-properties-size c m =
     second-colr-size (c .cicp) (c .icc) + (irot-size (irot-steps (m .orientation)) + (imir-size (imir-axis (m .orientation)) + clli-size (light-of (m .«content_light_level»))))
-
--- ---- mdat
-
--- the Exif payload: the offset of the TIFF header, which is 0, then the Exif bytes
-abbrev pub exif-bytes : Option (List ℕ) → List ℕ
-exif-bytes none = []
-exif-bytes (some e) = be 4 0 ‖ e
-
-abbrev pub exif-size : Option (List ℕ) → ℕ
-exif-size none = 0
-exif-size (some e) = 4 + length e

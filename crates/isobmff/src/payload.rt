@@ -1,14 +1,15 @@
 // mdat: the payloads, one after the other.
 ghost use mathlib.Core.Path.{_≡_};
-ghost use mathlib.Core.List.{[], _∷_};
+ghost use mathlib.Core.List.{[], _∷_, flatten};
 ghost use Prim.Native.Nat.{_+_, _≤_, _<_};
 ghost use lib.ListN.{length};
 ghost use Rattle.octets.specs.Numbers.{_‖_};
 ghost use Rattle.octets.specs.Boxes.{box};
 ghost use Rattle.octets.specs.Stores.{Wrote, Boxed};
 ghost use Rattle.panel.specs.Of.{part};
+ghost use Rattle.panel.specs.Items.{exif-payload};
+ghost use Rattle.length.specs.Size.{exif-size};
 ghost use Rattle.gain_map.specs.Data.{gain-data, gain-data-size};
-ghost use Rattle.isobmff.specs.Parts.{exif-bytes, exif-size};
 use gain_map::payload::write_data;
 use octets::put;
 use octets::w32;
@@ -19,7 +20,7 @@ use panel::gain_map::MaybeGainMap;
 // The Exif payload, where it is present: the offset of the TIFF header, which is 0, then the Exif bytes.
 fn write_exif_payload(out: &mut [u8], at: usize, present: Part, exif: &[u8]) -> usize
     requires { ⌜ at + exif-size (part present (now exif)) ≤ length (now out) ⌝ }
-    ensures { λ r. ⌜ Wrote (now (out .entry)) at (exif-size (part present (now (exif .entry)))) (exif-bytes (part present (now (exif .entry)))) (now (out .exit)) r ⌝ }
+    ensures { λ r. ⌜ Wrote (now (out .entry)) at (exif-size (part present (now (exif .entry)))) (flatten (exif-payload (part present (now (exif .entry))))) (now (out .exit)) r ⌝ }
 {
     match present {
         Part::Present => {
@@ -47,7 +48,7 @@ pub fn write_mdat(
     requires { ⌜ at + (8 + (length (now «color_samples») + (length (now «alpha_samples») + (exif-size (part «exif_present» (now exif)) + gain-data-size gain (now «gain_sample») (now «gain_xmp») (now «gain_tmap»))))) ≤ length (now out) ⌝ }
     requires { ⌜ size ≡ (8 + (length (now «color_samples») + (length (now «alpha_samples») + (exif-size (part «exif_present» (now exif)) + gain-data-size gain (now «gain_sample») (now «gain_xmp») (now «gain_tmap»))))) ⌝ }
     requires { ⌜ (8 + (length (now «color_samples») + (length (now «alpha_samples») + (exif-size (part «exif_present» (now exif)) + gain-data-size gain (now «gain_sample») (now «gain_xmp») (now «gain_tmap»))))) < 4294967296 ⌝ }
-    ensures { λ r. ⌜ Boxed (now (out .entry)) at (8 + (length (now («color_samples» .entry)) + (length (now («alpha_samples» .entry)) + (exif-size (part «exif_present» (now (exif .entry))) + gain-data-size gain (now («gain_sample» .entry)) (now («gain_xmp» .entry)) (now («gain_tmap» .entry)))))) (box "mdat" (now («color_samples» .entry) ‖ now («alpha_samples» .entry) ‖ exif-bytes (part «exif_present» (now (exif .entry))) ‖ gain-data gain (now («gain_sample» .entry)) (now («gain_xmp» .entry)) (now («gain_tmap» .entry))) ∷ []) (now (out .exit)) r ⌝ }
+    ensures { λ r. ⌜ Boxed (now (out .entry)) at (8 + (length (now («color_samples» .entry)) + (length (now («alpha_samples» .entry)) + (exif-size (part «exif_present» (now (exif .entry))) + gain-data-size gain (now («gain_sample» .entry)) (now («gain_xmp» .entry)) (now («gain_tmap» .entry)))))) (box "mdat" (now («color_samples» .entry) ‖ now («alpha_samples» .entry) ‖ flatten (exif-payload (part «exif_present» (now (exif .entry)))) ‖ gain-data gain (now («gain_sample» .entry)) (now («gain_xmp» .entry)) (now («gain_tmap» .entry))) ∷ []) (now (out .exit)) r ⌝ }
 {
     let a = write_box(out, at, size, b"mdat");
     let b = put(out, a, color_samples);

@@ -12,7 +12,7 @@ use Rattle.octets.proofs.Lists.{length-flatten, total-append}
 use Rattle.octets.proofs.Numbers.{length-be}
 use Rattle.octets.proofs.Boxes.{length-boxes-append, length-sizes, drop-boxes}
 use Rattle.panel.specs.Panel.{Gain, Panel}
-use Rattle.panel.specs.Items.{Form, has, listed, shape, colour-grid, gain-id, exif-payload, gain-payloads, payloads}
+use Rattle.panel.specs.Items.{Form, listed, shape, colour-grid, gain-id, exif-payload, gain-payloads, payloads}
 use Rattle.panel.specs.Iloc.{descriptor-of, wide, descriptor, locations, iloc}
 use Rattle.panel.specs.Iinf.{iinf}
 use Rattle.panel.specs.Iref.{iref}
@@ -25,7 +25,7 @@ use Rattle.panel.proofs.Ids.{length-given}
 use Rattle.panel.proofs.Payloads.{lengths-samples}
 use Rattle.panel.proofs.Accepted.{Accepted}
 use Rattle.length.specs.Parts.{Even, long}
-use Rattle.length.specs.Size.{ftyp-size, head-size, pitm-size, iprp-size, grpl-size, descriptor-size, idat-size, meta-size, gain-data-size, mdat-size, size}
+use Rattle.length.specs.Size.{ftyp-size, head-size, pitm-size, iprp-size, grpl-size, descriptor-size, idat-size, meta-size, exif-size, gain-data-size, mdat-size, size}
 use Rattle.length.proofs.Boxes.{boxes-given, length-iloc, length-iinf, length-iref}
 use Rattle.length.proofs.Properties.{length-ipco, length-ipma}
 
@@ -89,7 +89,7 @@ length-meta f at p h =
 
 -- ---- mdat
 
-total-exif-payload : (e : Option (List ℕ)) → total (map length (exif-payload e)) ≡ cond (has e) 4 0 + long e
+total-exif-payload : (e : Option (List ℕ)) → total (map length (exif-payload e)) ≡ exif-size e
 total-exif-payload none = refl
 total-exif-payload (some e) = omega arith
 

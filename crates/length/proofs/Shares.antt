@@ -19,7 +19,7 @@ use Rattle.panel.proofs.Accepted.{accepted}
 use Rattle.length.specs.Parts.{Even, long}
 use Rattle.length.specs.Properties.{first-colr-size, second-colr-count, second-colr-size, alternates-count, stated-size, alternates-size, turn-count}
 use Rattle.length.specs.Properties.{tone-properties-size, gain-properties-size, gain-association-count}
-use Rattle.length.specs.Size.{reference-size, idat-size, gain-data-size, size}
+use Rattle.length.specs.Size.{reference-size, idat-size, exif-size, gain-data-size, size}
 use Rattle.length.specs.Shares.{Extra, wide-grid, alternate-cicp, share, exif-extras, colour-extras, profile-extras, alternate-extras}
 use Rattle.length.specs.Shares.{tone-extras, gain-extras, extras, bare, replaced-colr, replaced, meetings}
 use Rattle.length.proofs.File.{length-file, even-accepted}
@@ -47,7 +47,7 @@ grid-shares d = either (wide d)
     either false = refl
 
 -- iloc and iinf, iref, mdat
-exif-shares : (e : Option (List ℕ)) → shares (exif-extras e) ≡ (16 + 21) * cond (has e) 1 0 + cond (has e) (reference-size ordinary 1) 0 + (cond (has e) 4 0 + long e)
+exif-shares : (e : Option (List ℕ)) → shares (exif-extras e) ≡ (16 + 21) * cond (has e) 1 0 + cond (has e) (reference-size ordinary 1) 0 + exif-size e
 exif-shares none = refl
 exif-shares (some e) = omega arith
 

@@ -1,6 +1,7 @@
 -- The length of the body of each other box, and of the file, as a sum of numbers: no list is made, only lengths are read.
 use mathlib.Core.Bool.{Bool, _&&_, not, cond}
 use mathlib.Core.Option.{Option, none, some}
+use mathlib.Core.List.{List}
 use Prim.Native.Nat.{ℕ, _+_, _*_}
 use lib.ListN.{length}
 use Rattle.panel.specs.Panel.{Gain, Panel}
@@ -70,13 +71,17 @@ meta-size f p =
 
 -- ---- mdat and the file
 
+-- the Exif payload: the offset of the TIFF header and the Exif bytes, where they are present
+abbrev pub exif-size : Option (List ℕ) → ℕ
+exif-size exif = cond (has exif) 4 0 + long exif
+
 abbrev pub gain-data-size : Option Gain → ℕ
 gain-data-size none = 0
 gain-data-size (some g) = length (g .sample) + length (g .xmp) + long (g .tone)
 
 abbrev pub mdat-size : Panel → ℕ
 mdat-size p =
-    length (p .tiles .bytes) + length (p .alpha .bytes) + (cond (has (p .metadata .exif)) 4 0 + long (p .metadata .exif)) + gain-data-size (p .gain)
+    length (p .tiles .bytes) + length (p .alpha .bytes) + exif-size (p .metadata .exif) + gain-data-size (p .gain)
 
 abbrev pub size : Form → Panel → ℕ
 size f p = (8 + head-size p) + (8 + meta-size f p) + (8 + mdat-size p)

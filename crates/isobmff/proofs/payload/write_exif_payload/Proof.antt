@@ -1,11 +1,13 @@
 -- Four zero bytes and the Exif bytes, or nothing.
 use borrow.Author.Needs.{needs}
 use native.Mathlib.Omega.{arith}
-use mathlib.Core.Path.{ap}
-use Rattle.octets.proofs.Stores.{_▹_, kept, nothing}
+use mathlib.Core.Path.{refl, sym, ap}
+use mathlib.Core.List.{flatten}
+use Rattle.octets.proofs.Stores.{_▹_, kept, told, nothing}
+use Rattle.octets.proofs.Lists.{flatten-one}
 use Rattle.panel.specs.declared.color.Part.{Part}
 use Rattle.panel.specs.Of.{part}
-use Rattle.isobmff.specs.Parts.{exif-size}
+use Rattle.length.specs.Size.{exif-size}
 use Rattle.isobmff.proofs.payload.write_exif_payload.Statement.{statement}
 use Rattle.isobmff.proofs.payload.write_exif_payload.Tie as tie
 
@@ -24,9 +26,10 @@ returns : tie.Need-returns
 returns c =
     let c2 = c .before .before in
     let c1 = c2 .before .before .before .before in
-    rw (c .before .before .before .before .before .before .before .before .enum-told .given .1) ((c1 .w32 .ensures) ▹ (c2 .put .ensures))
+    rw (c .before .before .before .before .before .before .before .before .enum-told .given .1) (told ((c1 .w32 .ensures) ▹ (c2 .put .ensures)) (sym (flatten-one _)) refl)
 
 returns-2 : tie.Need-returns-2
+unfolding flatten
 returns-2 c =
     rw (c .enum-told2 .given .1) nothing
 
