@@ -1,3 +1,2 @@
 pub mod Sizes
-pub mod Data
-pub mod Properties
+pub mod Parts

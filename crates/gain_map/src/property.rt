@@ -1,16 +1,14 @@
 // The gain map's properties in ipco.
-ghost use mathlib.Core.Path.{_≡_};
-ghost use mathlib.Core.List.{List, [], _∷_};
-ghost use Prim.Native.Nat.{ℕ, _+_, _≤_, _<_};
+ghost use mathlib.Core.List.{[], _∷_};
+ghost use Prim.Native.Nat.{_+_, _≤_, _<_};
 ghost use lib.ListN.{length};
-ghost use Rattle.octets.specs.Numbers.{_‖_};
 ghost use Rattle.octets.specs.Boxes.{box};
 ghost use Rattle.octets.specs.Stores.{Boxed};
 ghost use Rattle.panel.specs.Types.{bits};
-ghost use Rattle.panel.specs.Of.{Lent, part, alternate-of, gain-of};
+ghost use Rattle.panel.specs.Of.{part, alternate-of};
 ghost use Rattle.panel.specs.Ipco.{nclx-payload, ispe, pixi, auxC, alternates, tone-slots, gain-slots, held};
-ghost use Rattle.length.specs.Properties.{alternates-size};
-ghost use Rattle.gain_map.specs.Properties.{tone-properties-size, gain-properties-size};
+ghost use Rattle.length.specs.Properties.{alternates-size, image-properties-size, tone-properties-size, gain-properties-size};
+ghost use Rattle.gain_map.specs.Parts.{with-properties};
 use panel::color::MaybeColorMetadata;
 use panel::color::Part;
 use panel::gain_map::EncodedGainMap;
@@ -25,9 +23,9 @@ use properties::pixi::write_pixi_mono;
 
 // hvcC, ispe, pixi, auxC and colr of the gain image.
 fn write_image_properties(out: &mut [u8], at: usize, g: EncodedGainMap, hvcc: &[u8]) -> usize
-    requires { ⌜ at + (113 + length (now hvcc)) ≤ length (now out) ⌝ }
-    requires { ⌜ 113 + length (now hvcc) < 4294967296 ⌝ }
-    ensures { λ r. ⌜ Boxed (now (out .entry)) at (113 + length (now (hvcc .entry))) (box "hvcC" (now (hvcc .entry)) ∷ ispe (g .width) (g .height) ∷ pixi 1 (bits (g .«bit_depth»)) ∷ auxC "urn:com:apple:photo:2020:aux:hdrgainmap" ∷ box "colr" (nclx-payload (g .cicp)) ∷ []) (now (out .exit)) r ⌝ }
+    requires { ⌜ at + image-properties-size (now hvcc) ≤ length (now out) ⌝ }
+    requires { ⌜ image-properties-size (now hvcc) < 4294967296 ⌝ }
+    ensures { λ r. ⌜ Boxed (now (out .entry)) at (image-properties-size (now (hvcc .entry))) (box "hvcC" (now (hvcc .entry)) ∷ ispe (g .width) (g .height) ∷ pixi 1 (bits (g .«bit_depth»)) ∷ auxC "urn:com:apple:photo:2020:aux:hdrgainmap" ∷ box "colr" (nclx-payload (g .cicp)) ∷ []) (now (out .exit)) r ⌝ }
 {
     let depth = g.bit_depth;
     let cicp = g.cicp;
@@ -68,9 +66,9 @@ fn write_tone_properties(
     alternate: MaybeColorMetadata,
     icc: &[u8],
 ) -> usize
-    requires { ⌜ at + tone-properties-size present (alternate-of alternate (now icc)) ≤ length (now out) ⌝ }
-    requires { ⌜ tone-properties-size present (alternate-of alternate (now icc)) < 4294967296 ⌝ }
-    ensures { λ r. ⌜ ((t : List ℕ) → Boxed (now (out .entry)) at (tone-properties-size present (alternate-of alternate (now (icc .entry)))) (held (tone-slots (ispe w h) (pixi 3 depth) (part present t) (alternate-of alternate (now (icc .entry))))) (now (out .exit)) r) ⌝ }
+    requires { ⌜ at + tone-properties-size (part present []) (alternate-of alternate (now icc)) ≤ length (now out) ⌝ }
+    requires { ⌜ tone-properties-size (part present []) (alternate-of alternate (now icc)) < 4294967296 ⌝ }
+    ensures { λ r. ⌜ Boxed (now (out .entry)) at (tone-properties-size (part present []) (alternate-of alternate (now (icc .entry)))) (held (tone-slots (ispe w h) (pixi 3 depth) (part present []) (alternate-of alternate (now (icc .entry))))) (now (out .exit)) r ⌝ }
 {
     match present {
         Part::Present => write_tone_boxes(out, at, w, h, depth, alternate, icc),
@@ -89,9 +87,9 @@ pub fn write_ipco(
     hvcc: &[u8],
     icc: &[u8],
 ) -> usize
-    requires { ⌜ at + gain-properties-size gain (now hvcc) (now icc) ≤ length (now out) ⌝ }
-    requires { ⌜ gain-properties-size gain (now hvcc) (now icc) < 4294967296 ⌝ }
-    ensures { λ r. ⌜ ((l : Lent) → l .gain-hvcc ≡ now (hvcc .entry) → l .alternate-icc ≡ now (icc .entry) → Boxed (now (out .entry)) at (gain-properties-size gain (now (hvcc .entry)) (now (icc .entry))) (held (gain-slots (ispe w h) (pixi 3 depth) (gain-of gain l))) (now (out .exit)) r) ⌝ }
+    requires { ⌜ at + gain-properties-size (with-properties gain (now hvcc) (now icc)) ≤ length (now out) ⌝ }
+    requires { ⌜ gain-properties-size (with-properties gain (now hvcc) (now icc)) < 4294967296 ⌝ }
+    ensures { λ r. ⌜ Boxed (now (out .entry)) at (gain-properties-size (with-properties gain (now (hvcc .entry)) (now (icc .entry)))) (held (gain-slots (ispe w h) (pixi 3 depth) (with-properties gain (now (hvcc .entry)) (now (icc .entry))))) (now (out .exit)) r ⌝ }
 {
     match gain {
         MaybeGainMap::Some(g) => {

@@ -7,9 +7,9 @@ ghost use Rattle.octets.specs.Numbers.{_‖_};
 ghost use Rattle.octets.specs.Boxes.{box};
 ghost use Rattle.octets.specs.Stores.{Wrote, Boxed};
 ghost use Rattle.panel.specs.Of.{part};
-ghost use Rattle.panel.specs.Items.{exif-payload};
-ghost use Rattle.length.specs.Size.{exif-size};
-ghost use Rattle.gain_map.specs.Data.{gain-data, gain-data-size};
+ghost use Rattle.panel.specs.Items.{exif-payload, gain-payloads};
+ghost use Rattle.length.specs.Size.{exif-size, gain-data-size};
+ghost use Rattle.gain_map.specs.Parts.{with-payloads};
 use gain_map::payload::write_data;
 use octets::put;
 use octets::w32;
@@ -45,10 +45,10 @@ pub fn write_mdat(
     gain_xmp: &[u8],
     gain_tmap: &[u8],
 ) -> usize
-    requires { ⌜ at + (8 + (length (now «color_samples») + (length (now «alpha_samples») + (exif-size (part «exif_present» (now exif)) + gain-data-size gain (now «gain_sample») (now «gain_xmp») (now «gain_tmap»))))) ≤ length (now out) ⌝ }
-    requires { ⌜ size ≡ (8 + (length (now «color_samples») + (length (now «alpha_samples») + (exif-size (part «exif_present» (now exif)) + gain-data-size gain (now «gain_sample») (now «gain_xmp») (now «gain_tmap»))))) ⌝ }
-    requires { ⌜ (8 + (length (now «color_samples») + (length (now «alpha_samples») + (exif-size (part «exif_present» (now exif)) + gain-data-size gain (now «gain_sample») (now «gain_xmp») (now «gain_tmap»))))) < 4294967296 ⌝ }
-    ensures { λ r. ⌜ Boxed (now (out .entry)) at (8 + (length (now («color_samples» .entry)) + (length (now («alpha_samples» .entry)) + (exif-size (part «exif_present» (now (exif .entry))) + gain-data-size gain (now («gain_sample» .entry)) (now («gain_xmp» .entry)) (now («gain_tmap» .entry)))))) (box "mdat" (now («color_samples» .entry) ‖ now («alpha_samples» .entry) ‖ flatten (exif-payload (part «exif_present» (now (exif .entry)))) ‖ gain-data gain (now («gain_sample» .entry)) (now («gain_xmp» .entry)) (now («gain_tmap» .entry))) ∷ []) (now (out .exit)) r ⌝ }
+    requires { ⌜ at + (8 + (length (now «color_samples») + (length (now «alpha_samples») + (exif-size (part «exif_present» (now exif)) + gain-data-size (with-payloads gain (now «gain_sample») (now «gain_xmp») (now «gain_tmap»)))))) ≤ length (now out) ⌝ }
+    requires { ⌜ size ≡ (8 + (length (now «color_samples») + (length (now «alpha_samples») + (exif-size (part «exif_present» (now exif)) + gain-data-size (with-payloads gain (now «gain_sample») (now «gain_xmp») (now «gain_tmap»)))))) ⌝ }
+    requires { ⌜ (8 + (length (now «color_samples») + (length (now «alpha_samples») + (exif-size (part «exif_present» (now exif)) + gain-data-size (with-payloads gain (now «gain_sample») (now «gain_xmp») (now «gain_tmap»)))))) < 4294967296 ⌝ }
+    ensures { λ r. ⌜ Boxed (now (out .entry)) at (8 + (length (now («color_samples» .entry)) + (length (now («alpha_samples» .entry)) + (exif-size (part «exif_present» (now (exif .entry))) + gain-data-size (with-payloads gain (now («gain_sample» .entry)) (now («gain_xmp» .entry)) (now («gain_tmap» .entry))))))) (box "mdat" (now («color_samples» .entry) ‖ now («alpha_samples» .entry) ‖ flatten (exif-payload (part «exif_present» (now (exif .entry)))) ‖ flatten (gain-payloads (with-payloads gain (now («gain_sample» .entry)) (now («gain_xmp» .entry)) (now («gain_tmap» .entry))))) ∷ []) (now (out .exit)) r ⌝ }
 {
     let a = write_box(out, at, size, b"mdat");
     let b = put(out, a, color_samples);

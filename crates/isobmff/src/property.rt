@@ -7,10 +7,10 @@ ghost use lib.Dec.{eqb};
 ghost use lib.ListN.{length};
 ghost use Rattle.octets.specs.Stores.{Boxed};
 ghost use Rattle.panel.specs.Types.{bits, irot-steps};
-ghost use Rattle.panel.specs.Of.{Lent, colour-of, gain-of, panel-of};
+ghost use Rattle.panel.specs.Of.{colour-of, panel-of};
 ghost use Rattle.panel.specs.Ipco.{pixi, tone-ispe, gain-slots, held, ipco};
-ghost use Rattle.length.specs.Properties.{ipco-size};
-ghost use Rattle.gain_map.specs.Properties.{gain-properties-size};
+ghost use Rattle.length.specs.Properties.{gain-properties-size, ipco-size};
+ghost use Rattle.gain_map.specs.Parts.{with-properties};
 ghost use Rattle.isobmff.specs.Parts.{lent-props, color-properties, color-properties-size, alpha-properties, alpha-properties-size, optional-properties, optional-properties-size};
 use octets::write_box;
 use panel::GridDims;
@@ -121,9 +121,9 @@ fn write_gain_properties(
     hvcc: &[u8],
     icc: &[u8],
 ) -> usize
-    requires { ⌜ at + gain-properties-size gain (now hvcc) (now icc) ≤ length (now out) ⌝ }
-    requires { ⌜ gain-properties-size gain (now hvcc) (now icc) < 4294967296 ⌝ }
-    ensures { λ r. ⌜ ((l : Lent) → l .gain-hvcc ≡ now (hvcc .entry) → l .alternate-icc ≡ now (icc .entry) → Boxed (now (out .entry)) at (gain-properties-size gain (now (hvcc .entry)) (now (icc .entry))) (held (gain-slots (tone-ispe dims orientation) (pixi 3 (max (bits depth) 10)) (gain-of gain l))) (now (out .exit)) r) ⌝ }
+    requires { ⌜ at + gain-properties-size (with-properties gain (now hvcc) (now icc)) ≤ length (now out) ⌝ }
+    requires { ⌜ gain-properties-size (with-properties gain (now hvcc) (now icc)) < 4294967296 ⌝ }
+    ensures { λ r. ⌜ Boxed (now (out .entry)) at (gain-properties-size (with-properties gain (now (hvcc .entry)) (now (icc .entry)))) (held (gain-slots (tone-ispe dims orientation) (pixi 3 (max (bits depth) 10)) (with-properties gain (now (hvcc .entry)) (now (icc .entry))))) (now (out .exit)) r ⌝ }
 {
     let turned = is_turned(orientation);
     let w = tone_side(turned, dims.full_h, dims.full_w);

@@ -4,9 +4,8 @@ use native.Mathlib.Omega.{arith}
 use mathlib.Core.Path.{refl, sym, ap}
 use Rattle.octets.proofs.Stores.{told, nothing}
 use mathlib.Core.List.{flatten}
-use Rattle.panel.specs.Items.{given}
 use Rattle.panel.specs.declared.color.Part.{Part}
-use Rattle.gain_map.specs.Data.{long}
+use Rattle.length.specs.Parts.{long}
 use Rattle.panel.specs.Of.{part}
 use Rattle.octets.proofs.Lists.{flatten-one}
 use Rattle.gain_map.proofs.payload.put_part.Statement.{statement}

@@ -5,7 +5,7 @@ use Rattle.octets.proofs.Stores.{retold}
 use mathlib.Core.Bool.{Bool, cond}
 use Prim.Native.Nat.{ℕ}
 use Rattle.panel.specs.Ipco.{ispe, pixi, gain-slots, held}
-use Rattle.panel.specs.Of.{gain-of}
+use Rattle.gain_map.specs.Parts.{with-properties}
 use Rattle.isobmff.proofs.property.write_gain_properties.Statement.{statement}
 use Rattle.isobmff.proofs.property.write_gain_properties.Tie as tie
 
@@ -20,7 +20,7 @@ returns c =
     let d = start .args .dims in
     let w = (c2 .tone-side .ensures) ∙ ap (λ (b : Bool). cond {A = ℕ} b (d .«full_h») (d .«full_w»)) (c1 .is-turned .ensures) in
     let h = (c3 .tone-side2 .ensures) ∙ ap (λ (b : Bool). cond {A = ℕ} b (d .«full_w») (d .«full_h»)) (c1 .is-turned .ensures) in
-    λ l eh ei. retold ((c5 .write-ipco .ensures) l eh ei) (λ i. held (gain-slots (ispe (w i) (h i)) (pixi 3 ((c4 .tone-depth .ensures) i)) (gain-of (start .args .gain) l))) refl
+    retold (c5 .write-ipco .ensures) (λ i. held (gain-slots (ispe (w i) (h i)) (pixi 3 ((c4 .tone-depth .ensures) i)) (with-properties (start .args .gain) (start .args .hvcc .now) (start .args .icc .now)))) refl
 
 pub write-gain-properties-spec : {M : Type 1} → statement M
 write-gain-properties-spec = tie.close (tie.spec (λ c κs. search needs) (λ c κs. search needs) (λ c κs. search needs) (λ c κs. search needs) (λ c κs. search needs) (λ c. search needs) returns)

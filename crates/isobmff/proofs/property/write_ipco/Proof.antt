@@ -1,7 +1,7 @@
 -- The head, and the properties of the colour, of alpha, those that may be absent, and the gain map's.
 use borrow.Author.Needs.{needs}
 use native.Mathlib.Omega.{arith}
-use mathlib.Core.Path.{refl, sym, ap, _∙_}
+use mathlib.Core.Path.{sym, ap, _∙_}
 use Rattle.octets.proofs.Stores.{kept, boxed, retold, _▸_}
 use Prim.Native.Nat.{ℕ, _+_}
 use mathlib.Core.List.{[], _∷_}
@@ -55,7 +55,7 @@ returns c =
     let start = c1 .before .before .before .before .before .before .before .before .before .before .before .before in
     let l = lent-props (start .args .color-hvcc .now) (start .args .alpha-hvcc .now) (start .args .icc .now) (start .args .gain-hvcc .now) (start .args .alternate-icc .now) in
     let sum = ipco-sum (start .args .panel) l in
-    let body = (c2 .write-color-properties .ensures) ▸ (c3 .write-alpha-properties .ensures) ▸ (c4 .write-optional-properties .ensures) ▸ (c5 .write-gain-properties .ensures) l refl refl in
+    let body = (c2 .write-color-properties .ensures) ▸ (c3 .write-alpha-properties .ensures) ▸ (c4 .write-optional-properties .ensures) ▸ (c5 .write-gain-properties .ensures) in
     retold (boxed "ipco" (c1 .write-box .ensures) (body .wrote) (start .pre .1 .0 ∙ ap (λ (k : ℕ). 8 + k) (sym sum))) (ap (λ (b : Box). b ∷ []) (ipco-joined (start .args .panel) l)) (ap (λ (k : ℕ). 8 + k) sum)
 
 pub write-ipco-spec : {M : Type 1} → statement M
