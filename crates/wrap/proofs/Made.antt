@@ -21,15 +21,16 @@ use Rattle.panel.specs.declared.color.Part.the-variants.{Absent, Present}
 use Rattle.panel.specs.declared.gain_map.MaybeGainMap.{MaybeGainMap}
 use Rattle.panel.specs.declared.gain_map.MaybeGainMap.the-variants as G
 use Rattle.panel.proofs.Payloads.{flatten-samples, lengths-samples, cut, locations-runs}
-use Rattle.length.specs.Parts.{Even}
+use Rattle.length.specs.Parts.{Even, long}
+use Rattle.length.specs.Size.{exif-size}
 use Rattle.locations.specs.Spans.{spans}
 use Rattle.locations.proofs.Spans.{extents-spans}
-use Rattle.gain_map.specs.Data.{long, gain-data}
+use Rattle.gain_map.specs.Parts.{with-payloads}
 use Rattle.gain_map.specs.declared.location.PayloadLengths.{PayloadLengths}
 use Rattle.offsets.specs.Laid.{Laid}
 use Rattle.offsets.specs.declared.Layout.{Layout}
 use Rattle.isobmff.specs.Locations.{other-sizes, placed}
-use Rattle.isobmff.specs.Parts.{lent-props, exif-bytes, exif-size}
+use Rattle.isobmff.specs.Parts.{lent-props}
 use Rattle.places.specs.Roles.{its-of, Placed}
 use Rattle.isobmff.specs.Sections.{item-boxes, property-boxes}
 use Rattle.places.specs.declared.Places.{Places}
@@ -128,7 +129,7 @@ module _ (n : Numbers) (l : Lent) (w : Form) (y : Layout) (z : Places) (ok : ref
 
   abbrev pub its-mdat : Box
   its-mdat =
-      box "mdat" (l .tiles .bytes ‖ l .alpha .bytes ‖ exif-bytes (part (n .metadata .exif) (l .exif)) ‖ gain-data (n .«gain_map») (l .gain-sample) (l .gain-xmp) (l .gain-tmap))
+      box "mdat" (l .tiles .bytes ‖ l .alpha .bytes ‖ flatten (exif-payload (part (n .metadata .exif) (l .exif))) ‖ flatten (gain-payloads (with-payloads (n .«gain_map») (l .gain-sample) (l .gain-xmp) (l .gain-tmap))))
 
   made-mdat : its-mdat ≡ mdat p
   made-mdat = sym (mdat-parts n l (color-sum n l w y z ok e f) (alpha-sum n l w y z ok e f))

@@ -20,16 +20,16 @@ use Rattle.panel.specs.declared.Shape.{Shape}
 use Rattle.panel.proofs.Accepted.{Accepted, accepted}
 use Rattle.length.specs.Parts.{Even}
 use Rattle.length.specs.Properties.{ipma-size}
-use Rattle.length.specs.Size.{ftyp-size, iloc-size, iinf-size, iref-size, mdat-size, size}
+use Rattle.length.specs.Size.{ftyp-size, iloc-size, iinf-size, iref-size, exif-size, gain-data-size, mdat-size, size}
 use Rattle.length.proofs.Boxes.{length-iloc, length-iinf, length-iref}
 use Rattle.length.proofs.Properties.{length-ipco, length-ipma}
 use Rattle.length.proofs.File.{length-head, length-iprp, length-idat, length-meta, length-mdat, data-at-size, length-file, even-accepted}
 use Rattle.boxes.specs.Runs.{Shaped}
 use Rattle.grids.specs.Descriptors.{Sided}
-use Rattle.gain_map.specs.Data.{gain-data-size}
+use Rattle.gain_map.specs.Parts.{with-payloads}
 use Rattle.offsets.specs.Laid.{Laid}
 use Rattle.offsets.specs.declared.Layout.{Layout}
-use Rattle.isobmff.specs.Parts.{lent-props, exif-size}
+use Rattle.isobmff.specs.Parts.{lent-props}
 use Rattle.places.specs.Roles.{its-of, Placed}
 use Rattle.places.specs.Counts.{ipma-bytes}
 use Rattle.isobmff.specs.Sections.{item-boxes-size, Item-sizes, iprp-bytes, idat-bytes, property-boxes-size, Property-sizes}
@@ -46,7 +46,7 @@ toned-only : (g : Option Gain) → has (tone-of g) ≡ true → has g ≡ true
 toned-only none e = e
 toned-only (some g) e = refl
 
-gain-bound : (g : MaybeGainMap) (s x t : List ℕ) → gain-lengths g s x t .sample + gain-lengths g s x t .xmp ≤ gain-data-size g s x t
+gain-bound : (g : MaybeGainMap) (s x t : List ℕ) → gain-lengths g s x t .sample + gain-lengths g s x t .xmp ≤ gain-data-size (with-payloads g s x t)
 gain-bound G.None s x t = omega arith
 gain-bound (G.Some g) s x t = omega arith
 
@@ -57,7 +57,7 @@ module _ (n : Numbers) (l : Lent) where
   -- mdat, as its writer counts it
   abbrev pub mdat-bytes : ℕ
   mdat-bytes =
-      8 + (length (l .tiles .bytes) + (length (l .alpha .bytes) + (exif-size (part (n .metadata .exif) (l .exif)) + gain-data-size (n .«gain_map») (l .gain-sample) (l .gain-xmp) (l .gain-tmap))))
+      8 + (length (l .tiles .bytes) + (length (l .alpha .bytes) + (exif-size (part (n .metadata .exif) (l .exif)) + gain-data-size (with-payloads (n .«gain_map») (l .gain-sample) (l .gain-xmp) (l .gain-tmap)))))
 
   pub same-dims : panel-of n l .dims ≡ n .dims
   unfolding panel-of

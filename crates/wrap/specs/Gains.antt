@@ -5,7 +5,7 @@ use lib.ListN.{length}
 use Rattle.panel.specs.Of.{part}
 use Rattle.panel.specs.declared.gain_map.MaybeGainMap.{MaybeGainMap}
 use Rattle.panel.specs.declared.gain_map.MaybeGainMap.the-variants as G
-use Rattle.gain_map.specs.Data.{long}
+use Rattle.length.specs.Parts.{long}
 use Rattle.gain_map.specs.declared.location.PayloadLengths.{PayloadLengths}
 
 abbrev pub gain-lengths : MaybeGainMap → List ℕ → List ℕ → List ℕ → PayloadLengths

@@ -10,10 +10,11 @@ ghost use Rattle.panel.specs.File.{file};
 ghost use Rattle.panel.specs.Refusal.{refusal};
 ghost use Rattle.panel.specs.Widths.{Fits};
 ghost use Rattle.panel.specs.Answer.{says, Promised};
-ghost use Rattle.gain_map.specs.Data.{long, gain-data-size};
+ghost use Rattle.length.specs.Parts.{long};
+ghost use Rattle.length.specs.Size.{exif-size, gain-data-size};
+ghost use Rattle.gain_map.specs.Parts.{with-payloads};
 ghost use Rattle.layout.specs.Lent.{lent};
 ghost use Rattle.offsets.specs.Laid.{Laid};
-ghost use Rattle.isobmff.specs.Parts.{exif-size};
 ghost use Rattle.places.specs.Roles.{Placed, Fit};
 ghost use Rattle.wrap.specs.Gains.{gain-lengths};
 use boxes::ftyp::write_ftyp;
@@ -56,7 +57,7 @@ fn tone_length(present: Part, tmap: &[u8]) -> u32
 
 // The lengths of the gain map's payloads, 0 where it is absent.
 fn gain_parts(gain: MaybeGainMap, sample: &[u8], xmp: &[u8], tmap: &[u8]) -> PayloadLengths
-    requires { ⌜ gain-data-size gain (now sample) (now xmp) (now tmap) < 4294967296 ⌝ }
+    requires { ⌜ gain-data-size (with-payloads gain (now sample) (now xmp) (now tmap)) < 4294967296 ⌝ }
     ensures { λ r. ⌜ r ≡ gain-lengths gain (now (sample .entry)) (now (xmp .entry)) (now (tmap .entry)) ⌝ }
 {
     match gain {

@@ -4,7 +4,7 @@ use native.Mathlib.Omega.{arith}
 use mathlib.Core.Path.{ap}
 use Rattle.panel.specs.declared.color.Part.{Part}
 use Rattle.panel.specs.Of.{part}
-use Rattle.isobmff.specs.Parts.{exif-size}
+use Rattle.length.specs.Size.{exif-size}
 use Rattle.wrap.proofs.exif_length.Statement.{statement}
 use Rattle.wrap.proofs.exif_length.Tie as tie
 
@@ -22,5 +22,9 @@ returns : tie.Need-returns
 returns c =
     rw (c .enum-told .given .1)
 
+returns-2 : tie.Need-returns-2
+returns-2 c =
+    rw (c .enum-told2 .given .1)
+
 pub exif-length-spec : {M : Type 1} → statement M
-exif-length-spec = tie.close (tie.spec (λ c. search needs) cast-result add-result (λ c. search needs) returns (λ c. search needs))
+exif-length-spec = tie.close (tie.spec (λ c. search needs) cast-result add-result (λ c. search needs) returns returns-2)

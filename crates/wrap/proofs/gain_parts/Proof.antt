@@ -5,26 +5,27 @@ use mathlib.Core.Path.{ap}
 use Prim.Native.Nat.{ℕ}
 use lib.ListN.{length}
 use Rattle.panel.specs.declared.gain_map.MaybeGainMap.{MaybeGainMap}
-use Rattle.gain_map.specs.Data.{gain-data-size}
+use Rattle.length.specs.Size.{gain-data-size}
+use Rattle.gain_map.specs.Parts.{with-payloads}
 use Rattle.wrap.proofs.gain_parts.Statement.{statement}
 use Rattle.wrap.proofs.gain_parts.Tie as tie
 
 tone-length-requires : tie.Need-tone-length-requires
 tone-length-requires c κs =
     let start = c .before .before .before .before .before .before in
-    omega (arith, start .pre, ap (λ (x : MaybeGainMap). gain-data-size x (start .args .sample .now) (start .args .xmp .now) (start .args .tmap .now)) (c .before .gain .given .1))
+    omega (arith, start .pre, ap (λ (x : MaybeGainMap). gain-data-size (with-payloads x (start .args .sample .now) (start .args .xmp .now) (start .args .tmap .now))) (c .before .gain .given .1))
 
 cast-t10 : tie.Need-cast-t10
 cast-t10 c =
     let c1 = c in
     let start = c1 .before .before .before .before .before .before .before in
-    omega (arith, start .pre, ap (λ (x : MaybeGainMap). gain-data-size x (start .args .sample .now) (start .args .xmp .now) (start .args .tmap .now)) (c .before .before .gain .given .1))
+    omega (arith, start .pre, ap (λ (x : MaybeGainMap). gain-data-size (with-payloads x (start .args .sample .now) (start .args .xmp .now) (start .args .tmap .now))) (c .before .before .gain .given .1))
 
 cast-t12 : tie.Need-cast-t12
 cast-t12 c =
     let c1 = c in
     let start = c1 .before .before .before .before .before .before .before in
-    omega (arith, start .pre, ap (λ (x : MaybeGainMap). gain-data-size x (start .args .sample .now) (start .args .xmp .now) (start .args .tmap .now)) (c .before .before .gain .given .1))
+    omega (arith, start .pre, ap (λ (x : MaybeGainMap). gain-data-size (with-payloads x (start .args .sample .now) (start .args .xmp .now) (start .args .tmap .now))) (c .before .before .gain .given .1))
 
 returns : tie.Need-returns
 returns c =

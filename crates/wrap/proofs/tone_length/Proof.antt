@@ -4,7 +4,7 @@ use native.Mathlib.Omega.{arith}
 use mathlib.Core.Path.{ap}
 use Rattle.panel.specs.declared.color.Part.{Part}
 use Rattle.panel.specs.Of.{part}
-use Rattle.gain_map.specs.Data.{long}
+use Rattle.length.specs.Parts.{long}
 use Rattle.wrap.proofs.tone_length.Statement.{statement}
 use Rattle.wrap.proofs.tone_length.Tie as tie
 
