@@ -9,6 +9,7 @@ ghost use Rattle.panel.specs.Forms.{form-of};
 ghost use Rattle.panel.specs.Iinf.{gain-infes};
 ghost use Rattle.panel.specs.Iref.{reference, gain-references};
 ghost use Rattle.panel.specs.File.{grpl};
+ghost use Rattle.length.specs.Size.{grpl-size};
 ghost use Rattle.boxes.specs.Runs.{Shaped};
 use boxes::grpl::write_grpl;
 use boxes::ids::color_grid_id;
@@ -87,9 +88,9 @@ pub fn write_iref(out: &mut [u8], at: usize, form: FileForm, s: Shape) -> usize
 
 // grpl, where there is a tone map.
 pub fn write_groups(out: &mut [u8], at: usize, s: Shape) -> usize
-    requires { ⌜ at + cond (s .tone) 36 0 ≤ length (now out) ⌝ }
+    requires { ⌜ at + grpl-size s ≤ length (now out) ⌝ }
     requires { ⌜ Shaped s ⌝ }
-    ensures { λ r. ⌜ Boxed (now (out .entry)) at (cond (s .tone) 36 0) (grpl s) (now (out .exit)) r ⌝ }
+    ensures { λ r. ⌜ Boxed (now (out .entry)) at (grpl-size s) (grpl s) (now (out .exit)) r ⌝ }
 {
     if s.tone {
         let tone = tmap_id(s);

@@ -1,6 +1,5 @@
 -- The parts of meta, and how many bytes each takes.
 use mathlib.Core.Path.{_≡_}
-use mathlib.Core.Bool.{cond}
 use mathlib.Core.List.{List, [], _∷_}
 use Prim.Native.Nat.{ℕ, _+_, _<_}
 use Rattle.octets.specs.Numbers.{_‖_}
@@ -16,7 +15,7 @@ use Rattle.panel.specs.File.{hdlr, pitm, grpl, idat}
 use Rattle.panel.specs.declared.GridDims.{GridDims}
 use Rattle.panel.specs.declared.Shape.{Shape}
 use Rattle.length.specs.Properties.{ipco-size}
-use Rattle.length.specs.Size.{iloc-size, iinf-size, iref-size, descriptor-size}
+use Rattle.length.specs.Size.{iloc-size, iinf-size, iref-size, grpl-size, idat-size}
 use Rattle.boxes.specs.Runs.{Shaped}
 use Rattle.offsets.specs.declared.Layout.{Layout}
 use Rattle.places.specs.Roles.{its-of}
@@ -45,14 +44,14 @@ abbrev pub iprp-bytes : Form → Panel → Shape → Places → ℕ
 iprp-bytes f p s y = 8 + ((8 + ipco-size p) + ipma-bytes f s y)
 
 abbrev pub idat-bytes : GridDims → ℕ
-idat-bytes d = 8 + (descriptor-size d + descriptor-size d)
+idat-bytes d = 8 + idat-size d
 
 -- iprp to idat
 abbrev pub property-boxes : Form → Panel → Shape → Places → GridDims → List Box
 property-boxes f p s y d = iprp-of f p s y ∷ grpl s ‖ idat d ∷ []
 
 abbrev pub property-boxes-size : Form → Panel → Shape → Places → GridDims → ℕ
-property-boxes-size f p s y d = iprp-bytes f p s y + (cond (s .tone) 36 0 + idat-bytes d)
+property-boxes-size f p s y d = iprp-bytes f p s y + (grpl-size s + idat-bytes d)
 
 pub record Property-sizes (f : Form) (p : Panel) (y : Layout) (z : Places) (d : GridDims) : Type 0 where
   pub ipco : y .ipco ≡ 8 + ipco-size p

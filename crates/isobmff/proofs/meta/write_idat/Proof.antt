@@ -1,6 +1,8 @@
 -- The head, and the descriptor twice.
 use borrow.Author.Needs.{needs}
-use Rattle.octets.proofs.Stores.{_▹_, boxed}
+use native.Mathlib.Omega.{arith}
+use mathlib.Core.Path.{refl}
+use Rattle.octets.proofs.Stores.{_▹_, boxed, retold}
 use Rattle.isobmff.proofs.meta.write_idat.Statement.{statement}
 use Rattle.isobmff.proofs.meta.write_idat.Tie as tie
 
@@ -10,7 +12,7 @@ returns c =
     let c2 = c3 .before .before .before .before in
     let c1 = c2 .before .before .before .before in
     let start = c1 .before .before .before .before in
-    boxed "idat" (c1 .write-box .ensures) ((c2 .write-descriptor .ensures) ▹ (c3 .write-descriptor2 .ensures)) (start .pre .1 .1)
+    retold (boxed "idat" (c1 .write-box .ensures) ((c2 .write-descriptor .ensures) ▹ (c3 .write-descriptor2 .ensures)) (omega (arith, start .pre .1 .1))) refl (omega arith)
 
 pub write-idat-spec : {M : Type 1} → statement M
 write-idat-spec = tie.close (tie.spec (λ c κs. search needs) (λ c κs. search needs) (λ c κs. search needs) (λ c. search needs) returns)
