@@ -25,7 +25,7 @@ mul-left k {n} {i} h = let e : n - i - 1 ≡ n - (i + 1) = omega arith in mul-st
 pub mul-none : (k : ℕ) {n i : ℕ} → i ≡ n → k * (n - i) ≡ 0
 mul-none k {n} {i} h = let e : n - i ≡ 0 = omega arith in ap (λ (m : ℕ). k * m) e ∙ mul-zero k
 
-pub ids-step : (id n : ℕ) → 0 < n → ids-from id n ≡ id ∷ ids-from (id + 1) (n - 1)
+ids-step : (id n : ℕ) → 0 < n → ids-from id n ≡ id ∷ ids-from (id + 1) (n - 1)
 ids-step id zero h = absurd (omega arith)
 ids-step id (suc n) h = let e : suc n - 1 ≡ n = omega arith in rw (e, add-one)
 

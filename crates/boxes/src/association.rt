@@ -78,7 +78,7 @@ pub fn write_runs(
 }
 
 // The head of an entry in the ordinary form: the item's id and the count of its associations.
-pub fn write_ordinary_head(out: &mut [u8], at: usize, id: ItemId, count: u8) -> usize
+fn write_ordinary_head(out: &mut [u8], at: usize, id: ItemId, count: u8) -> usize
     requires { ⌜ at + 3 ≤ length (now out) ⌝ }
     ensures { λ r. ⌜ Wrote (now (out .entry)) at 3 (be 2 (id .0) ‖ be 1 count) (now (out .exit)) r ⌝ }
 {

@@ -25,7 +25,7 @@ pub fn hvcc_uses_rext(hvcc: &[u8]) -> bool
 }
 
 // The brand of a picture.
-pub fn write_brand(out: &mut [u8], at: usize, rext: bool) -> usize
+fn write_brand(out: &mut [u8], at: usize, rext: bool) -> usize
     requires { ⌜ at + 4 ≤ length (now out) ⌝ }
     ensures { λ r. ⌜ Wrote (now (out .entry)) at 4 (brand rext) (now (out .exit)) r ⌝ }
 {
@@ -37,7 +37,7 @@ pub fn write_brand(out: &mut [u8], at: usize, rext: bool) -> usize
 }
 
 // A further brand, where it is wanted.
-pub fn write_extra_brand(out: &mut [u8], at: usize, wanted: bool, brand: &[u8; 4]) -> usize
+fn write_extra_brand(out: &mut [u8], at: usize, wanted: bool, brand: &[u8; 4]) -> usize
     requires { ⌜ at + cond wanted 4 0 ≤ length (now out) ⌝ }
     ensures { λ r. ⌜ Wrote (now (out .entry)) at (cond wanted 4 0) (given wanted (now (brand .entry))) (now (out .exit)) r ⌝ }
 {

@@ -11,7 +11,7 @@ use octets::write_fullbox;
 use panel::WideItemId;
 
 // altr: a tone map or else a grid is shown; the group's id is the first that no item has.
-pub fn write_altr(out: &mut [u8], at: usize, tone: WideItemId, grid: WideItemId) -> usize
+fn write_altr(out: &mut [u8], at: usize, tone: WideItemId, grid: WideItemId) -> usize
     requires { ⌜ at + 28 ≤ length (now out) ⌝ }
     requires { ⌜ tone .0 < 4294967295 ⌝ }
     ensures { λ r. ⌜ Boxed (now (out .entry)) at 28 (altr (tone .0) (grid .0) ∷ []) (now (out .exit)) r ⌝ }

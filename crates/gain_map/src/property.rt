@@ -55,7 +55,7 @@ fn write_tone_boxes(
     write_alternate_colr(out, b, alternate, icc)
 }
 
-// The tone map's properties, where there is one.
+// The tone map's properties, where there is one; its bytes do not matter here.
 fn write_tone_properties(
     out: &mut [u8],
     at: usize,

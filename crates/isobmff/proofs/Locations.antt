@@ -1,8 +1,8 @@
 -- iloc from its pieces: the entries of each run in turn are those of all locations, as many as the last id says.
-use mathlib.Core.Path.{_≡_, refl, sym, ap, _∙_}
+use mathlib.Core.Path.{_≡_, sym, ap, _∙_}
 use mathlib.Core.Bool.{Bool, true, false, cond}
 use mathlib.Core.List.{List, [], _∷_, _++_, flatMap, append-assoc}
-use Prim.Native.Nat.{ℕ, suc, _+_, _*_}
+use Prim.Native.Nat.{ℕ, _+_, _*_}
 use native.Mathlib.Nat.{add-zero}
 use native.Mathlib.Omega.{arith}
 use lib.ListN.{length, length-append}
@@ -12,7 +12,7 @@ use Rattle.octets.proofs.Lists.{cond-mul, flatMap-append, flatMap-one, length-f
 use Rattle.octets.proofs.Numbers.{length-be}
 use Rattle.octets.proofs.Boxes.{boxes-one}
 use Rattle.panel.specs.Items.{Form, given, colour-grid, alpha-tile, alpha-grid, exif-id, gain-id}
-use Rattle.panel.specs.Iloc.{Extent, located, entry, iloc}
+use Rattle.panel.specs.Iloc.{located, entry, iloc}
 use Rattle.panel.specs.Refusal.{last-id}
 use Rattle.panel.specs.declared.Shape.{Shape}
 use Rattle.panel.proofs.Ids.{length-given}

@@ -7,7 +7,7 @@ ghost use lib.ListN.{length};
 ghost use Rattle.octets.specs.Numbers.{_‖_, be, text, total};
 ghost use Rattle.panel.specs.Refusal.{last-id};
 ghost use Rattle.octets.specs.Stores.{Wrote, Boxed};
-ghost use Rattle.panel.specs.Items.{given, colour-grid, alpha-tile, alpha-grid, exif-id};
+ghost use Rattle.panel.specs.Items.{colour-grid, alpha-tile, alpha-grid, exif-id};
 ghost use Rattle.panel.specs.Forms.{form-of};
 ghost use Rattle.panel.specs.Iloc.{entry, located, iloc};
 ghost use Rattle.length.specs.Size.{iloc-size};

@@ -14,7 +14,6 @@ ghost use Rattle.grids.specs.Descriptors.{Sided};
 ghost use Rattle.isobmff.specs.Locations.{other-sizes, placed};
 ghost use Rattle.isobmff.specs.Parts.{lent-props};
 ghost use Rattle.places.specs.Roles.{Fit};
-ghost use Rattle.places.specs.Counts.{ipma-bytes};
 ghost use Rattle.isobmff.specs.Sections.{item-boxes, item-boxes-size, Item-sizes, iprp-of, iprp-bytes, idat-bytes, property-boxes, property-boxes-size, Property-sizes};
 use crate::location::Offsets;
 use crate::location::write_iloc;
@@ -33,11 +32,10 @@ use offsets::Layout;
 use panel::FileForm;
 use panel::GridDims;
 use panel::Panel;
-use panel::Shape;
 use places::Places;
 
 // idat: the descriptor of each grid.
-pub fn write_idat(out: &mut [u8], at: usize, size: u32, d: GridDims) -> usize
+fn write_idat(out: &mut [u8], at: usize, size: u32, d: GridDims) -> usize
     requires { ⌜ at + idat-bytes d ≤ length (now out) ⌝ }
     requires { ⌜ Sided d ⌝ }
     requires { ⌜ size ≡ idat-bytes d ⌝ }
@@ -50,7 +48,7 @@ pub fn write_idat(out: &mut [u8], at: usize, size: u32, d: GridDims) -> usize
 
 // hdlr, pitm, iloc, iinf and iref.
 // Above 40 lines by its parameters, one to a line: each byte part is a slice of its own.
-pub fn write_item_boxes(
+fn write_item_boxes(
     out: &mut [u8],
     at: usize,
     form: FileForm,
@@ -96,7 +94,7 @@ pub fn write_item_boxes(
 }
 
 // iprp: ipco and ipma, which has so many entries.
-pub fn write_iprp(
+fn write_iprp(
     out: &mut [u8],
     at: usize,
     form: FileForm,
@@ -134,7 +132,7 @@ pub fn write_iprp(
 }
 
 // iprp, grpl where there is a tone map, and idat.
-pub fn write_property_boxes(
+fn write_property_boxes(
     out: &mut [u8],
     at: usize,
     form: FileForm,

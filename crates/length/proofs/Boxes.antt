@@ -49,17 +49,17 @@ length-iloc f at p h = length-iloc-of f (locations at p) ∙ ap (λ (n : ℕ). 6
 
 -- ---- iinf
 
-pub length-infe : (f : Form) (flags id : ℕ) (type : String) (more : List ℕ)
+length-infe : (f : Form) (flags id : ℕ) (type : String) (more : List ℕ)
     → length (infe f flags id type more .body) ≡ 7 + f .id + length (text type) + length more
 length-infe f flags id type more = simp (length-append, length-be) (omega arith)
 
-pub length-boxes-tile-infes : (f : Form) (first n : ℕ) → length (boxes (tile-infes f first n)) ≡ n * (19 + f .id)
+length-boxes-tile-infes : (f : Form) (first n : ℕ) → length (boxes (tile-infes f first n)) ≡ n * (19 + f .id)
 length-boxes-tile-infes f first n =
     length-boxes-map (λ id. infe f 1 id "hvc1" []) (11 + f .id) (λ id. omega (arith, length-infe f 1 id "hvc1" [])) (ids-from first n)
     ∙ rw length-ids-from (ap (λ (k : ℕ). n * k) (omega arith))
 
 -- the entries, and 20 bytes of the one that has a content type
-pub length-boxes-gain-infes : (f : Form) (s : Shape)
+length-boxes-gain-infes : (f : Form) (s : Shape)
     → length (boxes (gain-infes f s)) ≡ (cond (s .gain) 2 0 + cond (s .tone) 1 0) * (19 + f .id) + cond (s .gain) 20 0
 length-boxes-gain-infes f s =
     let k = 19 + f .id in
@@ -85,11 +85,11 @@ length-iinf f s =
 -- ---- iref
 
 -- from one item to k others, the whole box
-pub length-reference : (f : Form) (type : String) (from : ℕ) (to : List ℕ) {k : ℕ} → length to ≡ k → 8 + length (reference f type from to .body) ≡ reference-size f k
+length-reference : (f : Form) (type : String) (from : ℕ) (to : List ℕ) {k : ℕ} → length to ≡ k → 8 + length (reference f type from to .body) ≡ reference-size f k
 length-reference f type from to {k} h =
     simp (length-append, length-be, length-flatMap (be (f .id)) (f .id) (length-be (f .id)), h) (omega (arith, suc-mul k (f .id)))
 
-pub length-boxes-gain-references : (f : Form) (s : Shape) → length (boxes (gain-references f s)) ≡ gain-references-size f s
+length-boxes-gain-references : (f : Form) (s : Shape) → length (boxes (gain-references f s)) ≡ gain-references-size f s
 length-boxes-gain-references f s =
     let grid = colour-grid s in
     let g = gain-id s in

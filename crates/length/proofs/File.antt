@@ -31,7 +31,7 @@ use Rattle.length.proofs.Properties.{length-ipco, length-ipma}
 
 -- ---- ftyp
 
-pub length-ftyp : (colour gain tone : Bool) → length (ftyp colour gain tone .body) ≡ ftyp-size colour gain tone
+length-ftyp : (colour gain tone : Bool) → length (ftyp colour gain tone .body) ≡ ftyp-size colour gain tone
 length-ftyp colour gain tone = simp (length-append, length-given) (omega (arith, brand colour))
   where
     brand : (b : Bool) → length (cond b (text "heix") (text "heic")) ≡ 4
@@ -43,14 +43,14 @@ length-head p = length-ftyp (rext (p .tiles .config)) (gain-rext (p .gain)) (sha
 
 -- ---- meta
 
-pub length-pitm : (f : Form) (s : Shape) → length (pitm f s .body) ≡ pitm-size f
+length-pitm : (f : Form) (s : Shape) → length (pitm f s .body) ≡ pitm-size f
 length-pitm f s = omega (arith, length-be (f .id) (colour-grid s))
 
 pub length-iprp : (f : Form) (p : Panel) → length (iprp f p .body) ≡ iprp-size f p
 length-iprp f p =
     omega (arith, length-sizes (ipco p ∷ ipma f (associations (shape p) (positions 1 (slots p))) ∷ []), length-ipco p, length-ipma f p)
 
-pub length-boxes-grpl : (s : Shape) → length (boxes (grpl s)) ≡ grpl-size s
+length-boxes-grpl : (s : Shape) → length (boxes (grpl s)) ≡ grpl-size s
 length-boxes-grpl s =
     let group = altr (gain-id s + 2) (colour-grid s) ∷ [] in
     boxes-given (s .tone) (box "grpl" (boxes group) ∷ []) (omega (arith, length-sizes group))

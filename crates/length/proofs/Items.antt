@@ -2,13 +2,13 @@
 use mathlib.Core.Path.{_≡_, refl, ap, _∙_}
 use mathlib.Core.Bool.{cond}
 use mathlib.Core.Option.{Option, none, some}
-use mathlib.Core.List.{List, [], _∷_}
-use Prim.Native.Nat.{ℕ, suc, _+_}
+use mathlib.Core.List.{List}
+use Prim.Native.Nat.{ℕ, _+_}
 use native.Mathlib.Omega.{arith}
 use lib.ListN.{length, length-append, length-map}
 use Rattle.panel.specs.Panel.{Gain, Panel}
 use Rattle.panel.specs.Items.{Form, has, listed, tone-of, shape, exif-payload, gain-payloads}
-use Rattle.panel.specs.Iloc.{Extent, located, locations}
+use Rattle.panel.specs.Iloc.{locations}
 use Rattle.panel.specs.Iinf.{infes}
 use Rattle.panel.specs.Ipco.{Role}
 use Rattle.panel.specs.Ipma.{associations}
@@ -21,11 +21,11 @@ use Rattle.length.specs.Properties.{associated-items}
 
 -- ---- iloc
 
-pub length-exif-payload : (e : Option (List ℕ)) → length (exif-payload e) ≡ cond (has e) 1 0
+length-exif-payload : (e : Option (List ℕ)) → length (exif-payload e) ≡ cond (has e) 1 0
 length-exif-payload none = refl
 length-exif-payload (some e) = refl
 
-pub length-gain-payloads : (g : Option Gain) → length (gain-payloads g) ≡ cond (has g) 2 0 + cond (has (tone-of g)) 1 0
+length-gain-payloads : (g : Option Gain) → length (gain-payloads g) ≡ cond (has g) 2 0 + cond (has (tone-of g)) 1 0
 length-gain-payloads none = refl
 length-gain-payloads (some g) = omega (arith, tone (g .tone))
   where

@@ -31,7 +31,7 @@ pub length-optional : (s : String) (a : Option (List ℕ)) → length (optional 
 length-optional s none = refl
 length-optional s (some x) = refl
 
-pub length-first-colr : (c : Option Cicp) (i : Option (List ℕ)) → 8 + length (first-colr c i) ≡ first-colr-size c i
+length-first-colr : (c : Option Cicp) (i : Option (List ℕ)) → 8 + length (first-colr c i) ≡ first-colr-size c i
 length-first-colr (some c) i = refl
 length-first-colr none (some i) = omega arith
 length-first-colr none none = refl
@@ -41,7 +41,7 @@ length-second-colr (some c) none = refl
 length-second-colr (some c) (some i) = refl
 length-second-colr none i = refl
 
-pub length-boxes-second-colr : (c : Option Cicp) (i : Option (List ℕ)) → length (boxes (optional "colr" (second-colr c i))) ≡ second-colr-size c i
+length-boxes-second-colr : (c : Option Cicp) (i : Option (List ℕ)) → length (boxes (optional "colr" (second-colr c i))) ≡ second-colr-size c i
 length-boxes-second-colr (some c) none = length-none
 length-boxes-second-colr (some c) (some i) = simp (length-boxes, length-none) (omega arith)
 length-boxes-second-colr none i = length-none
@@ -56,7 +56,7 @@ length-alternates (some a) = stated (a .cicp) (a .icc)
     stated none (some i) = refl
     stated none none = refl
 
-pub length-boxes-alternates : (a : Option Colour) → length (boxes (alternates a)) ≡ alternates-size a
+length-boxes-alternates : (a : Option Colour) → length (boxes (alternates a)) ≡ alternates-size a
 length-boxes-alternates none = length-none
 length-boxes-alternates (some a) = stated (a .cicp) (a .icc)
   where
@@ -66,11 +66,11 @@ length-boxes-alternates (some a) = stated (a .cicp) (a .icc)
     stated none (some i) = simp (length-boxes, length-none) (omega arith)
     stated none none = length-none
 
-pub length-boxes-irot : (k : ℕ) → length (boxes (optional "irot" (irot-payload k))) ≡ irot-size k
+length-boxes-irot : (k : ℕ) → length (boxes (optional "irot" (irot-payload k))) ≡ irot-size k
 length-boxes-irot zero = length-none
 length-boxes-irot (suc k) = simp (length-boxes, length-none)
 
-pub length-boxes-imir : (a : Option Bool) → length (boxes (optional "imir" (imir-payload a))) ≡ imir-size a
+length-boxes-imir : (a : Option Bool) → length (boxes (optional "imir" (imir-payload a))) ≡ imir-size a
 length-boxes-imir none = length-none
 length-boxes-imir (some a) = simp (length-boxes, length-none)
 
@@ -78,7 +78,7 @@ length-clli : (l : Option ContentLightLevel) → length (optional "clli" (clli-p
 length-clli none = refl
 length-clli (some l) = refl
 
-pub length-boxes-clli : (l : Option ContentLightLevel) → length (boxes (optional "clli" (clli-payload l))) ≡ clli-size l
+length-boxes-clli : (l : Option ContentLightLevel) → length (boxes (optional "clli" (clli-payload l))) ≡ clli-size l
 length-boxes-clli none = length-none
 length-boxes-clli (some l) = simp (length-boxes, length-none)
 
@@ -91,7 +91,7 @@ module _ (w h depth : ℕ) where
   length-boxes-tone-slots none a = length-none
   length-boxes-tone-slots (some t) a = simp (length-boxes, append-nil, length-boxes-alternates) (omega arith)
 
-  pub length-boxes-gain-slots : (g : Option Gain) → length (boxes (held (gain-slots (ispe w h) (pixi 3 depth) g))) ≡ gain-properties-size g
+  length-boxes-gain-slots : (g : Option Gain) → length (boxes (held (gain-slots (ispe w h) (pixi 3 depth) g))) ≡ gain-properties-size g
   length-boxes-gain-slots none = length-none
   length-boxes-gain-slots (some g) = simp (length-boxes, length-boxes-tone-slots) (omega arith)
 
@@ -108,7 +108,7 @@ abbrev pub width : Association → ℕ
 width a = length (a .properties)
 
 -- whatever the items and their properties
-pub length-ipma-of : (f : Form) (l : List Association) → length (ipma f l .body) ≡ 8 + length l * (1 + f .id) + total (map width l)
+length-ipma-of : (f : Form) (l : List Association) → length (ipma f l .body) ≡ 8 + length l * (1 + f .id) + total (map width l)
 unfolding flatMap
 length-ipma-of f l = omega (arith, entries l)
   where

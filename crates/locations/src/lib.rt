@@ -17,7 +17,7 @@ use panel::ItemId;
 use panel::WideItemId;
 
 // The entry of an item in the ordinary form: its id, its construction method, and its one extent.
-pub fn write_ordinary_location(
+fn write_ordinary_location(
     out: &mut [u8],
     at: usize,
     id: ItemId,

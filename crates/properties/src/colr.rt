@@ -23,7 +23,7 @@ use panel::color::MaybeColorMetadata;
 use panel::color::Part;
 
 // The byte of the full range.
-pub fn range_byte(full_range: bool) -> u8
+fn range_byte(full_range: bool) -> u8
     ensures { λ r. ⌜ r ≡ cond «full_range» 128 0 ⌝ }
 {
     if full_range { 0x80 } else { 0x00 }
@@ -47,7 +47,7 @@ pub fn write_colr_nclx(out: &mut [u8], at: usize, enc: Cicp) -> usize
 }
 
 // By a profile.
-pub fn write_colr_icc(out: &mut [u8], at: usize, icc: &[u8]) -> usize
+fn write_colr_icc(out: &mut [u8], at: usize, icc: &[u8]) -> usize
     requires { ⌜ at + (12 + length (now icc)) ≤ length (now out) ⌝ }
     requires { ⌜ 12 + length (now icc) < 4294967296 ⌝ }
     ensures { λ r. ⌜ Boxed (now (out .entry)) at (12 + length (now (icc .entry))) (box "colr" (text "prof" ‖ now (icc .entry)) ∷ []) (now (out .exit)) r ⌝ }
@@ -58,7 +58,7 @@ pub fn write_colr_icc(out: &mut [u8], at: usize, icc: &[u8]) -> usize
 }
 
 // A profile, or unspecified full-range where there is none.
-pub fn write_colr_without_cicp(out: &mut [u8], at: usize, present: Part, icc: &[u8]) -> usize
+fn write_colr_without_cicp(out: &mut [u8], at: usize, present: Part, icc: &[u8]) -> usize
     requires { ⌜ at + first-colr-size none (part present (now icc)) ≤ length (now out) ⌝ }
     requires { ⌜ first-colr-size none (part present (now icc)) < 4294967296 ⌝ }
     ensures { λ r. ⌜ Boxed (now (out .entry)) at (first-colr-size none (part present (now (icc .entry)))) (box "colr" (first-colr none (part present (now (icc .entry)))) ∷ []) (now (out .exit)) r ⌝ }
@@ -84,7 +84,7 @@ pub fn write_colr(out: &mut [u8], at: usize, color: ColorMetadata, icc: &[u8]) -
 }
 
 // A profile where it is present.
-pub fn write_profile(out: &mut [u8], at: usize, present: Part, icc: &[u8]) -> usize
+fn write_profile(out: &mut [u8], at: usize, present: Part, icc: &[u8]) -> usize
     requires { ⌜ at + profile-size (part present (now icc)) ≤ length (now out) ⌝ }
     requires { ⌜ profile-size (part present (now icc)) < 4294967296 ⌝ }
     ensures { λ r. ⌜ Boxed (now (out .entry)) at (profile-size (part present (now (icc .entry)))) (optional "colr" (profile (part present (now (icc .entry))))) (now (out .exit)) r ⌝ }
@@ -110,7 +110,7 @@ pub fn write_secondary_colr(out: &mut [u8], at: usize, color: ColorMetadata, icc
 }
 
 // What an alternate colour states: code points, then a profile.
-pub fn write_stated_colr(out: &mut [u8], at: usize, color: ColorMetadata, icc: &[u8]) -> usize
+fn write_stated_colr(out: &mut [u8], at: usize, color: ColorMetadata, icc: &[u8]) -> usize
     requires { ⌜ at + stated-size (cicp-of (color .cicp)) (part (color .icc) (now icc)) ≤ length (now out) ⌝ }
     requires { ⌜ stated-size (cicp-of (color .cicp)) (part (color .icc) (now icc)) < 4294967296 ⌝ }
     ensures { λ r. ⌜ Boxed (now (out .entry)) at (stated-size (cicp-of (color .cicp)) (part (color .icc) (now (icc .entry)))) (alternate-colrs (cicp-of (color .cicp)) (part (color .icc) (now (icc .entry)))) (now (out .exit)) r ⌝ }

@@ -13,7 +13,7 @@ use octets::write_box;
 use panel::metadata::ImirAxis;
 
 // The byte of imir.
-pub fn axis_byte(axis: bool) -> u8
+fn axis_byte(axis: bool) -> u8
     ensures { λ r. ⌜ r ≡ cond axis 1 0 ⌝ }
 {
     if axis { 1 } else { 0 }

@@ -24,7 +24,7 @@ P-accepted = refl
 pub P-other-fits : Fits P-other
 P-other-fits = record { tile-w = omega arith; tile-h = omega arith; full-w = omega arith; full-h = omega arith; light = tt; gain = tt }
 
-pub P-other-accepted : refusal ordinary P-other ≡ 0
+P-other-accepted : refusal ordinary P-other ≡ 0
 unfolding boxes flatten flatMap file refusal
 P-other-accepted = refl
 
