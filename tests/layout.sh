@@ -1,5 +1,5 @@
 #!/usr/bin/env bash
-# The sources are formatted, no library crate rests on an assumed contract, and no module outgrows its reader.
+# The sources are formatted, no library crate rests on an assumed contract, and each module of a definition is read at one sitting.
 set -euo pipefail
 cd "$(dirname "$0")/.."
 
@@ -8,25 +8,27 @@ fail() { echo "layout: $1" >&2; exit 1; }
 unformatted=$(rt fmt --check 2>&1 || true)
 [ -z "$unformatted" ] || fail "not formatted: $unformatted"
 
-# The last line of a library crate's proof names what it assumes; here it must name nothing.
+# The verdict on a library crate names what it assumes; here it must name nothing. rt leaves it in target/log/NAME.say, and keeps it there
+# when a later check finds the crate unchanged; how that check ended is in target/log/NAME.res.
+libraries=0
 for crate in crates/*/; do
     name=$(basename "$crate")
     [ -f "$crate/src/lib.rt" ] || continue
-    verdict=$(grep '^logic=' "target/log/$name.out" | tail -n 1)
-    case $verdict in
-        logic=proved*foreign=* | logic=proved*axioms=*) fail "$name assumes something: $verdict" ;;
-        logic=proved*) ;;
-        *) fail "$name is not proved: $verdict" ;;
+    log=target/log/$name
+    ended=$(cat "$log.res" 2>/dev/null || echo nothing)
+    verdict=$(grep -s '^logic=' "$log.say" | tail -n 1 || true)
+    anew="'rm -f target/stamp/$name; rt check $name' proves it anew"
+    case $ended/$verdict in
+        proved/) fail "there is no verdict on $name: no line of $log.say begins with 'logic='; $anew" ;;
+        proved/logic=proved*foreign=* | proved/logic=proved*axioms=*) fail "$name assumes something: $verdict" ;;
+        proved/logic=proved*) ;;
+        *) fail "$name is not proved: its last check left '$ended' in $log.res and '$verdict' in $log.say; $anew" ;;
     esac
+    libraries=$((libraries + 1))
 done
 
-# limit FILE LINES
-limit() { [ "$(wc -l <"$1")" -lt "$2" ] || fail "$1 has $(wc -l <"$1") lines; fewer than $2 are wanted"; }
-while read -r file; do limit "$file" 150; done < <(find crates -path '*/specs/*.antt')
-while read -r file; do limit "$file" 400; done < <(find crates -path '*/proofs/*.antt')
-
-# The definition of the file: the pure panel, the panel that a call is given, and the boxes.
-cd crates/panel/specs
-lines=$(cat Panel.antt Of.antt Items.antt Iloc.antt Iinf.antt Iref.antt Ipco.antt Ipma.antt File.antt | wc -l)
-[ "$lines" -lt 600 ] || fail "the definition has $lines lines; fewer than 600 are wanted"
-echo "layout: formatted; nothing assumed; the definition has $lines lines"
+while read -r file; do
+    lines=$(wc -l <"$file")
+    [ "$lines" -lt 150 ] || fail "$file has $lines lines; fewer than 150 are wanted"
+done < <(find crates -path '*/specs/*.antt')
+echo "layout: formatted; nothing assumed in $libraries library crates; every module of a definition has fewer than 150 lines"
