@@ -4,6 +4,7 @@
 # KAHOPIRU_REQUIRE that is a failure. tests/readers/install installs them on Debian.
 set -euo pipefail
 cd "$(dirname "$0")/.."
+. tests/lib/left_out
 
 missing=()
 for tool in python3 x265 heif-info heif-convert exiftool; do
@@ -12,11 +13,7 @@ done
 # Version 7 has a command of its own; that of Debian's version 6 is asked for by its full name, as others are called convert, too.
 command -v magick >/dev/null || command -v convert-im6.q16 >/dev/null || missing+=(imagemagick)
 if [ ${#missing[@]} -gt 0 ]; then
-    what="not installed: ${missing[*]} (tests/readers/install installs what is wanted on Debian)"
-    case " ${KAHOPIRU_REQUIRE:-} " in
-        *[\ ,]readers[\ ,]*) echo "readers: $what, and KAHOPIRU_REQUIRE asks for them" >&2; exit 1 ;;
-    esac
-    echo "readers: skipped the reading by real readers: $what"
+    left_out readers "the reading by real readers: not installed: ${missing[*]} (tests/readers/install installs what is wanted on Debian)"
     exit 0
 fi
 
