@@ -1,0 +1,105 @@
+#!/usr/bin/env bash
+# Every path and every name that README.md and docs/CLAIMS.md cite exists.
+#
+# A path is every word with a slash, or that ends as a file's name does, in backticks or not. CLAIMS.md leaves out `crates/`, and an edit's
+# ending; a file's name without a folder is some crate's file. A name is what stands in backticks, or each word of it where it is a formula, and is defined in
+# the crates, the bindings or the tests: a function, type, law or record, or a crate. Where the name is given its crate (`crate::name`) or
+# its place (`name` (path)), it is defined there. Blocks of code are not looked at; readme.sh tries them.
+set -euo pipefail
+cd "$(dirname "$0")/.."
+
+file_name='\.(antt|rt|rs|sh|md|h|c|py|png|svg|sheet|txt|edit)$'
+room=$(mktemp -d)
+trap 'rm -rf "$room"' EXIT
+
+# What is cited and is not of this repository, or not one thing of it.
+not_ours=(
+    awxkee/hpvca ISO/IEC             # upstream, and those who publish the standards
+    ../shared/docs/src               # where upstream's source lies
+    src/ specs/ proofs/              # folders that every crate has, and upstream
+    hello.c                          # the reader's own file
+    requires ensures pub mut         # words of Rattle
+    rt must-fail                     # a command of the kit
+    os read write close              # the kit's library, and libc's functions
+)
+ours() { [[ " ${not_ours[*]} " != *" $1 "* ]]; }
+
+# defined: a line `NAME FILE` for each definition
+defined() {
+    find crates -name '*.antt' -exec awk '
+        /^(use|returns|unfolding|mod|--) / { next }
+        /^[^ ]/ || /^ *((abbrev|unfoldable) )?pub / {
+            sub(/^ */, "")
+            while (/^(abbrev|unfoldable|pub|record|data|module) /) sub(/^[a-z]+ /, "")
+            if ($2 ~ /^[:({]/) print $1, FILENAME
+        }' {} +
+    find crates bindings tests \( -name '*.rt' -o -name '*.rs' \) -exec awk '
+        match($0, /(fn|struct|enum|const|type) +[A-Za-z_0-9]+/) { split(substr($0, RSTART, RLENGTH), word, / +/); print word[2], FILENAME }' {} +
+    for crate in crates/*/; do echo "$(basename "$crate") $crate"; done
+}
+defined >"$room/defined"
+
+faults=0 paths=0 names=0 placed=0
+fault() { echo "cited: $1" >&2; faults=$((faults + 1)); }
+
+# path_of WORD: where a path that the document cites lies, if it is there
+path_of() {
+    local each places=("$1")
+    [ "$document" = README.md ] || places+=("crates/$1" "crates/$1.edit")
+    for each in "${places[@]}"; do
+        if [ -e "$each" ]; then echo "$each"; return; fi
+    done
+    [[ $1 == */* ]] || find crates -name "$1" -print -quit
+}
+
+# look NAME WHERE DOCUMENT: whether the name is defined somewhere below WHERE
+look() {
+    if [[ $1 == KAHOPIRU_* || $1 == --* ]]; then
+        # a variable or an option that a script or a program asks for
+        grep -rqwe "$1" --include='*.sh' --include='*.rs' tests bindings || fault "$3 cites $1, which nothing asks for"
+    else
+        awk -v name="$1" -v where="$2" '$1 == name && index($2, where) == 1 { found = 1 } END { exit !found }' "$room/defined" ||
+            fault "$3 cites $1, which is not defined${2:+ in $2}"
+    fi
+}
+
+for document in README.md docs/CLAIMS.md; do
+    awk '/^```/ { on = !on; next } !on' "$document" >"$room/text"
+
+    while read -r word; do
+        ours "$word" || continue
+        paths=$((paths + 1))
+        [ -n "$(path_of "$word")" ] || fault "$document cites the path $word, which is not there"
+    done < <(LC_ALL=C tr -c 'A-Za-z0-9_./-' '\n' <"$room/text" | sed -E 's/\.+$//' |
+        grep -E "/|$file_name" | sort -u)
+
+    while read -r span; do
+        # Paths are looked at above. Several words with a digit or a sign of the shell among them are a command, or what one prints.
+        if [[ $span == */* || $span =~ $file_name ]]; then continue; fi
+        if [[ $span == *\ *[0-9=,\"]* || $span == *[0-9]*\ * || $span == 'refused N' ]]; then
+            echo "cited: in $document a command, or what one prints: $span"
+            continue
+        fi
+        # Of a formula, words of one letter are its variables.
+        for name in $(tr '()&≡' ' ' <<<"$span"); do
+            if [ ${#name} = 1 ] || ! ours "$name"; then continue; fi
+            names=$((names + 1))
+            case $name in
+                *::*) look "${name##*::}" "crates/${name%%::*}/" "$document" ;;
+                *) look "$name" "" "$document" ;;
+            esac
+        done
+    done < <(grep -oE '`[^`]+`' "$room/text" | tr -d '`' | sort -u)
+
+    while IFS='(' read -r list word; do
+        place=$(path_of "$word")
+        [ -n "$place" ] || continue
+        while read -r name; do
+            placed=$((placed + 1))
+            look "$name" "$place" "$document"
+        done < <(grep -oE '`[^`]+`' <<<"$list" | tr -d '`')
+    done < <(grep -oE '(`[^` ]+`(, | and )?)+ \([a-z_]+/[A-Za-z0-9_./-]+' "$room/text")
+done
+
+[ "$faults" = 0 ] || { echo "cited: $faults are wrong of $paths paths and $names names, $placed of them with a place" >&2; exit 1; }
+echo "cited: $paths paths and $names names are there, $placed of them in the place that is given for them"
