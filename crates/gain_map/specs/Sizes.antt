@@ -4,7 +4,7 @@ use Prim.Native.Nat.{ℕ}
 use Rattle.octets.specs.Numbers.{_‖_}
 use Rattle.panel.specs.Items.{given}
 use Rattle.panel.specs.declared.Shape.{Shape}
-use Rattle.gain_map.specs.declared.location.PayloadLengths.{PayloadLengths}
+use Rattle.locations.specs.declared.PayloadLengths.{PayloadLengths}
 
 -- of those that are present
 abbrev pub sizes : Shape → PayloadLengths → List ℕ

@@ -13,16 +13,10 @@ ghost use Rattle.gain_map.specs.Sizes.{sizes};
 use boxes::ids::gain_id;
 use boxes::ids::tmap_id;
 use boxes::ids::xmp_id;
+use locations::PayloadLengths;
 use locations::write_location;
 use panel::FileForm;
 use panel::Shape;
-
-// The lengths of the gain map's payloads: the sample, the XMP and the tone map, 0 where there is none.
-pub struct PayloadLengths {
-    pub sample: u32,
-    pub xmp: u32,
-    pub tmap: u32,
-}
 
 // The tone map's entry.
 fn write_tone_location(

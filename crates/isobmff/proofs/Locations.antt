@@ -21,7 +21,7 @@ use Rattle.length.specs.Size.{iloc-size}
 use Rattle.locations.specs.Spans.{spans, location}
 use Rattle.locations.proofs.Spans.{entries-append, length-spans}
 use Rattle.gain_map.specs.Sizes.{sizes}
-use Rattle.gain_map.specs.declared.location.PayloadLengths.{PayloadLengths}
+use Rattle.locations.specs.declared.PayloadLengths.{PayloadLengths}
 use Rattle.isobmff.specs.Locations.{other-sizes, placed}
 
 -- ---- with Exif and without

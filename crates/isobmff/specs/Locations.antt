@@ -7,7 +7,7 @@ use Rattle.panel.specs.Iloc.{Location, located}
 use Rattle.panel.specs.declared.Shape.{Shape}
 use Rattle.locations.specs.Spans.{spans}
 use Rattle.gain_map.specs.Sizes.{sizes}
-use Rattle.gain_map.specs.declared.location.PayloadLengths.{PayloadLengths}
+use Rattle.locations.specs.declared.PayloadLengths.{PayloadLengths}
 
 -- the sizes of the payloads behind the alpha samples, where an Exif payload has e bytes
 abbrev pub other-sizes : Shape → ℕ → PayloadLengths → List ℕ

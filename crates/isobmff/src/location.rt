@@ -21,7 +21,7 @@ use boxes::ids::alpha_tile_base;
 use boxes::ids::color_grid_id;
 use boxes::ids::exif_id;
 use checks::shape::last_id;
-use gain_map::location::PayloadLengths;
+use locations::PayloadLengths;
 use locations::write_location;
 use locations::write_tile_locations;
 use octets::w16;

@@ -16,6 +16,13 @@ use panel::FileForm;
 use panel::ItemId;
 use panel::WideItemId;
 
+// How many bytes the gain map's payloads have: the sample, the XMP and the tone map, 0 where there is none.
+pub struct PayloadLengths {
+    pub sample: u32,
+    pub xmp: u32,
+    pub tmap: u32,
+}
+
 // The entry of an item in the ordinary form: its id, its construction method, and its one extent.
 fn write_ordinary_location(
     out: &mut [u8],

@@ -14,7 +14,9 @@ use Rattle.panel.specs.File.{head, iprp, idat, meta, mdat, data-at, file}
 use Rattle.panel.proofs.Accepted.{Accepted}
 use Rattle.length.specs.Parts.{Even}
 use Rattle.length.specs.Properties.{ipco-size}
-use Rattle.length.specs.Size.{iprp-size, meta-size, mdat-size}
+use Rattle.length.specs.Size.{iprp-size, meta-size, exif-size, mdat-size}
+use Rattle.locations.specs.Payloads.{gain-lengths}
+use Rattle.sizes.proofs.Caps.{together}
 use Rattle.length.proofs.Boxes.{length-iloc, length-iinf, length-iref}
 use Rattle.length.proofs.Properties.{length-ipco, length-ipma}
 use Rattle.length.proofs.File.{length-head, length-iprp, length-idat, length-meta, length-mdat, data-at-size, length-file, even-accepted}
@@ -28,16 +30,28 @@ record Exact (f : Form) (p : Panel) (z : Sizes) : Type 0 where
   mdat : z .mdat ≡ 8 + mdat-size p
   iprp : z .iprp ≡ 8 + iprp-size f p
   ipco : z .ipco ≡ 8 + ipco-size p
+  exif : z .exif ≡ exif-size (p .metadata .exif)
+  gain : z .gain ≡ gain-lengths (p .gain)
 
 exact-sizes : (f : Form) (p : Panel) (z : Sizes) → Sized f p z → z .ftyp + z .meta + z .mdat ≤ 4294967295 → Exact f p z
 exact-sizes f p z s h =
     let meta = s .meta .whole (omega (arith, h, s .ftyp)) in
+    let mdat = s .mdat .whole (omega (arith, h, s .ftyp)) in
+    let held = together (p .gain) in
     let iprp = s .iprp .whole (omega (arith, h, s .ftyp, meta, s .iprp .below)) in
     record {
       meta = meta;
-      mdat = s .mdat .whole (omega (arith, h, s .ftyp));
+      mdat = mdat;
       iprp = iprp;
       ipco = s .ipco .whole (omega (arith, h, s .ftyp, meta, iprp, s .ipco .below));
+      exif = s .exif .whole (omega (arith, h, s .ftyp, mdat, s .exif .below));
+      gain =
+          λ i.
+          record {
+            sample = s .gain .sample .whole (omega (arith, h, s .ftyp, mdat, s .gain .sample .below, held)) i;
+            xmp = s .gain .xmp .whole (omega (arith, h, s .ftyp, mdat, s .gain .xmp .below, held)) i;
+            tmap = s .gain .tmap .whole (omega (arith, h, s .ftyp, mdat, s .gain .tmap .below, held)) i;
+          };
     }
 
 -- ---- the sizes as lengths
@@ -54,6 +68,8 @@ pub record As-lengths (f : Form) (p : Panel) (z : Sizes) : Type 0 where
   pub meta : z .meta ≡ 8 + length (meta f (locations (data-at f p) p) p .body)
   pub mdat : z .mdat ≡ 8 + length (mdat p .body)
   pub data-at : z .ftyp + z .meta + 8 ≡ data-at f p
+  pub exif : z .exif ≡ exif-size (p .metadata .exif)
+  pub gain : z .gain ≡ gain-lengths (p .gain)
 
 pub as-lengths : (f : Form) (p : Panel) (z : Sizes) → Even p → Sized f p z → z .ftyp + z .meta + z .mdat ≤ 4294967295 → As-lengths f p z
 as-lengths f p z e s h =
@@ -71,6 +87,8 @@ as-lengths f p z e s h =
       meta = omega (arith, x .meta, length-meta f at p e);
       mdat = omega (arith, x .mdat, length-mdat p e);
       data-at = omega (arith, s .ftyp, x .meta, data-at-size f p e);
+      exif = x .exif;
+      gain = x .gain;
     }
 
 -- ---- accepted panels
@@ -86,4 +104,5 @@ within f p z a s =
       iprp = omega (arith, x .meta, x .iprp);
       ipco = omega (arith, x .iprp, x .ipco);
       samples = omega (arith, x .mdat);
+      exif = omega (arith, x .mdat, x .exif);
     }

@@ -13,6 +13,8 @@ use Rattle.panel.specs.Ipma.{positions, associations, ipma}
 use Rattle.panel.specs.File.{rext, gain-rext, head, iprp, idat, meta, mdat, data-at}
 use Rattle.panel.specs.declared.Shape.{Shape}
 use Rattle.length.specs.Parts.{Even}
+use Rattle.length.specs.Size.{exif-size}
+use Rattle.locations.specs.Payloads.{gain-lengths}
 use Rattle.sizes.specs.Sized.{Sized}
 use Rattle.sizes.specs.declared.Sizes.{Sizes}
 use Rattle.offsets.specs.declared.Layout.{Layout}
@@ -30,10 +32,12 @@ pub record Laid (f : Form) (p : Panel) (y : Layout) : Type 0 where
   pub idat : y .idat ≡ 8 + length (idat (p .dims) .body)
   pub meta : y .meta ≡ 8 + length (meta f (locations (data-at f p) p) p .body)
   pub mdat : y .mdat ≡ 8 + length (mdat p .body)
-  -- the colour samples, the alpha samples, and the payloads behind them
+  -- the colour samples, the alpha samples, and the payloads behind them: where they begin, and how many bytes the last have
   pub color-data : y .«color_data» ≡ data-at f p
   pub alpha-data : y .«alpha_data» ≡ data-at f p + length (p .tiles .bytes)
   pub other-data : y .«other_data» ≡ data-at f p + length (p .tiles .bytes) + length (p .alpha .bytes)
+  pub exif : y .exif ≡ exif-size (p .metadata .exif)
+  pub gain : y .gain ≡ gain-lengths (p .gain)
   pub color-rext : y .«color_rext» ≡ rext (p .tiles .config)
   pub gain-rext : y .«gain_rext» ≡ gain-rext (p .gain)
 
@@ -56,3 +60,4 @@ pub record Within (z : Sizes) (c a : ℕ) : Type 0 where
   pub iprp : z .iprp ≤ z .meta
   pub ipco : z .ipco ≤ z .iprp
   pub samples : 8 + c + a ≤ z .mdat
+  pub exif : z .exif ≤ z .mdat

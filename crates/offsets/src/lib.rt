@@ -3,11 +3,13 @@ ghost use Rattle.length.specs.Size.{size};
 ghost use Rattle.sizes.specs.Capped.{Capped};
 ghost use Rattle.sizes.specs.Sized.{Sized, Small};
 ghost use Rattle.offsets.specs.Laid.{Laid, Given, Within};
+use locations::PayloadLengths;
 use panel::Shape;
 use sizes::Sizes;
 
 // Where each box of a file lies: which items it has, the length of a grid's descriptor, the whole size of each box, the offsets where the
-// colour samples, the alpha samples and the payloads behind them begin, and whether the records are of the range extensions' profile.
+// colour samples, the alpha samples and the payloads behind them begin, how many bytes these payloads have, and whether the records are of
+// the range extensions' profile.
 pub struct Layout {
     pub shape: Shape,
     pub descriptor: u32,
@@ -24,19 +26,18 @@ pub struct Layout {
     pub color_data: u32,
     pub alpha_data: u32,
     pub other_data: u32,
+    pub exif: u32,
+    pub gain: PayloadLengths,
     pub color_rext: bool,
     pub gain_rext: bool,
 }
 
-// The length of the file: the end of its last box, where each begins at the end of the one before it and the first at 0.
+// The length of the file: its three boxes, one behind the other.
 pub fn file_size(z: Sizes) -> u64
     requires { ⌜ Small z ⌝ }
     ensures { λ r. ⌜ ((f : _) (p : _) → Sized f p z → Capped 4294967296 r (size f p)) ⌝ }
 {
-    let ftyp: u64 = 0;
-    let meta = ftyp + z.ftyp as u64;
-    let mdat = meta + z.meta;
-    mdat + z.mdat
+    z.ftyp as u64 + z.meta + z.mdat
 }
 
 // The layout that sizes make, of a file with so many bytes of colour and alpha samples.
@@ -52,6 +53,7 @@ pub fn placed(
     requires { ⌜ Within z colors alphas ⌝ }
     ensures { λ r. ⌜ ((f : _) (p : _) → Given f p z shape descriptor colors alphas «color_rext» «gain_rext» → Laid f p r) ⌝ }
 {
+    let gain = z.gain;
     let mdat = z.ftyp as u64 + z.meta;
     let color_data = mdat + 8;
     let alpha_data = color_data + colors as u64;
@@ -72,6 +74,8 @@ pub fn placed(
         color_data: color_data as u32,
         alpha_data: alpha_data as u32,
         other_data: other_data as u32,
+        exif: z.exif as u32,
+        gain,
         color_rext,
         gain_rext,
     }

@@ -3,3 +3,4 @@ pub mod Roles
 pub mod Lengths
 pub mod Entries
 pub mod Sizes
+pub mod Counted

@@ -120,7 +120,7 @@ gain-counted : (size depth : Box) (g : Option Gain) → let k = cond {A = ℕ} (
 gain-counted size depth none = refl
 gain-counted size depth (some g) = omega (arith, tone-counted size depth (g .tone) (g .alternate))
 
-in-all : (p : Panel) → let k = cond {A = ℕ} (has (p .gain)) 1 0 in let t = cond {A = ℕ} (has (tone-of (p .gain))) 1 0 in
+pub in-all : (p : Panel) → let k = cond {A = ℕ} (has (p .gain)) 1 0 in let t = cond {A = ℕ} (has (tone-of (p .gain))) 1 0 in
     8 + second-colrs p + irots p + imirs p + cllis p + k + k + k + k + k + t + t + alternate-colrs (p .gain) ≡ length (Ipco.properties p)
 in-all p = simp length-append (omega (arith, gain-counted (Ipco.tone-ispe (p .dims) (p .metadata .orientation)) (Ipco.pixi 3 (max (bits (p .depth)) 10)) (p .gain)))
 
@@ -135,16 +135,16 @@ placed p hc hr hm hl hg ht ha =
 
 -- ---- the counts as the code has them
 
-length-second-colr : (c : Option Cicp) (i : Option (List ℕ)) → second-colr-count c i ≡ length (optional "colr" (Ipco.second-colr c i))
+pub length-second-colr : (c : Option Cicp) (i : Option (List ℕ)) → second-colr-count c i ≡ length (optional "colr" (Ipco.second-colr c i))
 length-second-colr (some c) none = refl
 length-second-colr (some c) (some i) = refl
 length-second-colr none i = refl
 
-length-clli : (l : Option ContentLightLevel) → cond (has l) 1 0 ≡ length (optional "clli" (Ipco.clli-payload l))
+pub length-clli : (l : Option ContentLightLevel) → cond (has l) 1 0 ≡ length (optional "clli" (Ipco.clli-payload l))
 length-clli none = refl
 length-clli (some l) = refl
 
-length-alternates : (a : Option Colour) → alternates-count a ≡ length (Ipco.alternates a)
+pub length-alternates : (a : Option Colour) → alternates-count a ≡ length (Ipco.alternates a)
 length-alternates none = refl
 length-alternates (some a) = stated (a .cicp) (a .icc)
   where

@@ -1,7 +1,7 @@
 -- The positions of each role, as the code's places have them.
 use mathlib.Core.Path.{_≡_}
 use mathlib.Core.List.{List}
-use Prim.Native.Nat.{ℕ}
+use Prim.Native.Nat.{ℕ, _≤_}
 use lib.ListN.{length}
 use Rattle.panel.specs.Panel.{Panel}
 use Rattle.panel.specs.Ipco
@@ -39,6 +39,7 @@ pub record Placed (p : Panel) (y : Places) : Type 0 where
 
 -- each leaves the highest bit free
 pub record Fit (y : Places) : Type 0 where
+  pub count : y .count ≤ 127
   pub color : Color-fits (y .color)
   pub alpha : Alpha-fits (y .alpha)
   pub options : Options-fit (y .options)

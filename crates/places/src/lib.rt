@@ -101,6 +101,7 @@ fn panel_gain(gain: MaybeGainMap, s: Shape, positions: Positions) -> PlacedGain
     ensures { λ r. ⌜ Image-fits (r .places .image) ⌝ }
     ensures { λ r. ⌜ Tone-fits (r .places .tone) ⌝ }
     ensures { λ r. ⌜ positions .next .0 ≤ r .positions .next .0 ⌝ }
+    ensures { λ r. ⌜ r .positions .next .0 ≤ positions .next .0 + 9 ⌝ }
 {
     let image = when(s.gain, 1);
     let tone = when(s.tone, 1);

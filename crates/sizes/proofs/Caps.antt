@@ -1,12 +1,14 @@
 -- Sums of capped numbers are capped.
 use mathlib.Core.Path.{_≡_, refl}
 use mathlib.Core.Bool.{Bool, true, false, cond}
+use mathlib.Core.Option.{Option, none, some}
 use Prim.Native.Nat.{ℕ, _+_, _≤_}
 use native.Mathlib.Omega.{arith}
-use Rattle.panel.specs.Panel.{Panel}
+use Rattle.panel.specs.Panel.{Gain, Panel}
 use Rattle.panel.specs.Items.{Form, shape}
 use Rattle.length.specs.Properties.{ipco-size, ipma-size}
-use Rattle.length.specs.Size.{iloc-size, iinf-size, iref-size, iprp-size, grpl-size, idat-size, meta-size}
+use Rattle.length.specs.Size.{iloc-size, iinf-size, iref-size, iprp-size, grpl-size, idat-size, meta-size, gain-data-size}
+use Rattle.locations.specs.Payloads.{gain-lengths}
 use Rattle.sizes.specs.Capped.{Capped}
 
 infixl 20 _⊕_
@@ -24,6 +26,11 @@ renamed x e f = record { below = omega (arith, x .below); whole = λ h. omega (a
 pub cond-most : (b : Bool) (k n : ℕ) → n ≤ k → cond b k n ≤ k
 cond-most true k n h = omega arith
 cond-most false k n h = h
+
+-- the gain map's payloads, one by one and together
+pub together : (g : Option Gain) → gain-data-size g ≡ gain-lengths g .sample + gain-lengths g .xmp + gain-lengths g .tmap
+together none = refl
+together (some g) = refl
 
 -- ---- the boxes around others
 

@@ -4,6 +4,7 @@ use mathlib.Core.List.{List}
 use Prim.Native.Nat.{ℕ, _≤_, _<_}
 use lib.ListN.{length}
 use Rattle.panel.specs.Of.{Lent}
+use Rattle.locations.specs.declared.PayloadLengths.{PayloadLengths}
 use Rattle.sizes.specs.declared.lengths.GainLengths.{GainLengths}
 use Rattle.sizes.specs.declared.lengths.Lengths.{Lengths}
 
@@ -22,6 +23,12 @@ pub record Gain-measured (h s x t i : List ℕ) (y : GainLengths) : Type 0 where
   pub xmp : Length-of x (y .xmp)
   pub tmap : Length-of t (y .tmap)
   pub icc : Length-of i (y .icc)
+
+-- each of a gain map's payloads
+pub record Capped-payloads (y z : PayloadLengths) : Type 0 where
+  pub sample : Capped 4294967295 (y .sample) (z .sample)
+  pub xmp : Capped 4294967295 (y .xmp) (z .xmp)
+  pub tmap : Capped 4294967295 (y .tmap) (z .tmap)
 
 pub record Measured (l : Lent) (y : Lengths) : Type 0 where
   pub color-hvcc : Length-of (l .tiles .config) (y .«color_hvcc»)

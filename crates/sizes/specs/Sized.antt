@@ -1,11 +1,12 @@
--- The sizes of the boxes that the code computes, heads included: each is the definition's, or stands for it where a byte part is too long for a file.
+-- The sizes of the boxes that the code computes, heads included, and those of the payloads: each is the definition's, or stands for it where a byte part is too long for a file.
 use mathlib.Core.Path.{_≡_}
 use Prim.Native.Nat.{_+_, _≤_}
 use Rattle.panel.specs.Panel.{Panel}
 use Rattle.panel.specs.Items.{Form, shape}
 use Rattle.length.specs.Properties.{ipco-size, ipma-size}
-use Rattle.length.specs.Size.{head-size, iloc-size, iinf-size, iref-size, iprp-size, idat-size, meta-size, mdat-size}
-use Rattle.sizes.specs.Capped.{Capped}
+use Rattle.length.specs.Size.{head-size, iloc-size, iinf-size, iref-size, iprp-size, idat-size, meta-size, exif-size, mdat-size}
+use Rattle.sizes.specs.Capped.{Capped, Capped-payloads}
+use Rattle.locations.specs.Payloads.{gain-lengths}
 use Rattle.sizes.specs.declared.Sizes.{Sizes}
 
 pub record Sized (f : Form) (p : Panel) (y : Sizes) : Type 0 where
@@ -19,6 +20,9 @@ pub record Sized (f : Form) (p : Panel) (y : Sizes) : Type 0 where
   pub iprp : Capped 4294967295 (y .iprp) (8 + iprp-size f p)
   pub meta : Capped 4294967295 (y .meta) (8 + meta-size f p)
   pub mdat : Capped 4294967295 (y .mdat) (8 + mdat-size p)
+  -- the payloads behind the samples
+  pub exif : Capped 4294967295 (y .exif) (exif-size (p .metadata .exif))
+  pub gain : Capped-payloads (y .gain) (gain-lengths (p .gain))
 
 -- their sums do not wrap
 pub record Small (y : Sizes) : Type 0 where

@@ -5,35 +5,37 @@ pub mod properties;
 
 ghost use mathlib.Core.Path.{_≡_};
 ghost use Prim.Native.Nat.{_+_, _≤_};
+ghost use Rattle.panel.specs.Panel as Pure;
 ghost use Rattle.panel.specs.Of.{Lent, panel-of, gain-of};
 ghost use Rattle.panel.specs.Items.{shape};
 ghost use Rattle.panel.specs.Forms.{form-of};
 ghost use Rattle.panel.specs.File.{rext, gain-rext};
-ghost use Rattle.length.specs.Size.{ftyp-size, iloc-size, iinf-size, iref-size, idat-size, gain-data-size, mdat-size, size};
+ghost use Rattle.length.specs.Size.{ftyp-size, iloc-size, iinf-size, iref-size, descriptor-size, exif-size, mdat-size};
+ghost use Rattle.locations.specs.Payloads.{gain-lengths};
 ghost use Rattle.places.specs.Roles.{Placed, Fit};
-ghost use Rattle.sizes.specs.Capped.{Capped, Gain-measured, Measured};
+ghost use Rattle.sizes.specs.Capped.{Capped, Length-of, Capped-payloads, Gain-measured, Measured};
 ghost use Rattle.sizes.specs.Sized.{Sized, Small};
 use crate::lengths::GainLengths;
 use crate::lengths::Lengths;
-use crate::properties::data_size;
 use crate::properties::ipco_size;
 use crate::properties::part_size;
 use boxes::form::count_bytes;
 use boxes::form::ids_bytes;
 use boxes::ftyp::adds_heix;
 use boxes::ftyp::hvcc_uses_rext;
+use checks::shape::is_present;
 use checks::shape::last_id;
-use grids::descriptor_length;
+use locations::PayloadLengths;
 use octets::when;
 use panel::FileForm;
-use panel::GridDims;
 use panel::Panel;
 use panel::Shape;
 use panel::gain_map::MaybeGainMap;
 use places::Places;
 use places::associations::ipma_bytes;
 
-// The whole size of each box. ipco, iprp, meta and mdat are too large for a file where a part is.
+// The whole size of each box, and of the payloads behind the samples. ipco, iprp, meta, mdat and exif are too large for a file where a
+// part is.
 pub struct Sizes {
     pub ftyp: u32,
     pub iloc: u32,
@@ -45,6 +47,8 @@ pub struct Sizes {
     pub iprp: u64,
     pub meta: u64,
     pub mdat: u64,
+    pub exif: u64,
+    pub gain: PayloadLengths,
 }
 
 // Whether there is a gain map whose record is of the range extensions' profile.
@@ -93,65 +97,70 @@ pub fn iref_size(form: FileForm, s: Shape) -> u32
     12 + 2 * tiles + one + when(s.exif, one) + when(s.gain, 2 * one) + when(s.tone, two)
 }
 
-// idat, the whole box: two descriptors.
-pub fn idat_size(d: GridDims) -> u32
-    ensures { λ r. ⌜ r ≡ 8 + idat-size d ⌝ }
-{
-    8 + 2 * descriptor_length(d)
-}
-
-// The payloads of the gain map, where there is one.
-pub fn gain_data_size(gain: MaybeGainMap, y: GainLengths) -> u64
-    ensures { λ r. ⌜ ((l : Lent) → Gain-measured (l .gain-hvcc) (l .gain-sample) (l .gain-xmp) (l .gain-tmap) (l .alternate-icc) y → Capped 4294967295 r (gain-data-size (gain-of gain l))) ⌝ }
-    ensures { λ r. ⌜ r ≤ 12884901885 ⌝ }
+// How many bytes the gain map's payloads have, 0 where it is absent.
+fn gain_payloads(gain: MaybeGainMap, y: GainLengths) -> PayloadLengths
+    ensures { λ r. ⌜ ((l : Lent) → Gain-measured (l .gain-hvcc) (l .gain-sample) (l .gain-xmp) (l .gain-tmap) (l .alternate-icc) y → Capped-payloads r (gain-lengths (gain-of gain l))) ⌝ }
 {
     match gain {
-        MaybeGainMap::None => 0,
+        MaybeGainMap::None => PayloadLengths {
+            sample: 0,
+            xmp: 0,
+            tmap: 0,
+        },
         MaybeGainMap::Some(g) => {
             let tmap = g.tmap;
-            y.sample as u64 + y.xmp as u64 + data_size(tmap, y.tmap)
+            PayloadLengths {
+                sample: y.sample,
+                xmp: y.xmp,
+                tmap: when(is_present(tmap), y.tmap),
+            }
         }
     }
 }
 
-// mdat, the whole box.
-pub fn mdat_size(panel: Panel, y: Lengths) -> u64
-    ensures { λ r. ⌜ ((l : Lent) → Measured l y → Capped 4294967295 r (8 + mdat-size (panel-of panel l))) ⌝ }
+// mdat, the whole box, where the Exif payload and the gain map's have so many bytes.
+fn mdat_size(y: Lengths, exif: u64, gain: PayloadLengths) -> u64
+    requires { ⌜ exif ≤ 8589934590 ⌝ }
+    ensures { λ r. ⌜ ((p : Pure.Panel) → Length-of (p .tiles .bytes) (y .«color_samples») → Length-of (p .alpha .bytes) (y .«alpha_samples») → Capped 4294967295 exif (exif-size (p .metadata .exif)) → Capped-payloads gain (gain-lengths (p .gain)) → Capped 4294967295 r (8 + mdat-size p)) ⌝ }
     ensures { λ r. ⌜ r ≤ 31000000000 ⌝ }
 {
-    let metadata = panel.metadata;
-    let exif = metadata.exif;
-    let gain = panel.gain_map;
-    let g = y.gain;
     8
         + y.color_samples as u64
         + y.alpha_samples as u64
-        + part_size(exif, 4, y.exif)
-        + gain_data_size(gain, g)
+        + exif
+        + gain.sample as u64
+        + gain.xmp as u64
+        + gain.tmap as u64
 }
 
-// The size of every box, that of ipma from the places of the properties. color and gain: the record is of the range extensions' profile.
+// The size of every box, that of ipma from the places of the properties, and how many bytes the payloads behind the samples have. color and
+// gain: the record is of the range extensions' profile.
 pub fn sizes_of(
     form: FileForm,
     panel: Panel,
     s: Shape,
     z: Places,
     y: Lengths,
+    descriptor: u32,
     color: bool,
     gain: bool,
 ) -> Sizes
     requires { ⌜ s .tiles ≤ 65536 ⌝ }
     requires { ⌜ Fit z ⌝ }
-    ensures { λ r. ⌜ ((l : Lent) → Measured l y → s ≡ shape (panel-of panel l) → Placed (panel-of panel l) z → color ≡ rext (l .tiles .config) → gain ≡ gain-rext (gain-of (panel .«gain_map») l) → Sized (form-of form) (panel-of panel l) r) ⌝ }
+    requires { ⌜ descriptor ≤ 12 ⌝ }
+    ensures { λ r. ⌜ ((l : Lent) → Measured l y → s ≡ shape (panel-of panel l) → Placed (panel-of panel l) z → descriptor ≡ descriptor-size (panel .dims) → color ≡ rext (l .tiles .config) → gain ≡ gain-rext (gain-of (panel .«gain_map») l) → Sized (form-of form) (panel-of panel l) r) ⌝ }
     ensures { λ r. ⌜ Small r ⌝ }
 {
-    let dims = panel.dims;
+    let metadata = panel.metadata;
+    let present = metadata.exif;
+    let g = panel.gain_map;
+    let lengths = y.gain;
     let iloc = iloc_size(form, s);
     let iinf = iinf_size(form, s);
     let iref = iref_size(form, s);
     let ipma = ipma_bytes(form, s, z);
-    let idat = idat_size(dims);
-    let ipco = ipco_size(panel, y);
+    let idat = 8 + 2 * descriptor;
+    let ipco = ipco_size(panel, z, y);
     let iprp = 8 + ipco + ipma as u64;
     let meta = 57
         + ids_bytes(form, 1) as u64
@@ -161,6 +170,8 @@ pub fn sizes_of(
         + iprp
         + when(s.tone, 36) as u64
         + idat as u64;
+    let exif = part_size(present, 4, y.exif);
+    let payloads = gain_payloads(g, lengths);
     Sizes {
         ftyp: ftyp_size(color, gain, s.tone),
         iloc,
@@ -171,6 +182,8 @@ pub fn sizes_of(
         ipco,
         iprp,
         meta,
-        mdat: mdat_size(panel, y),
+        mdat: mdat_size(y, exif, payloads),
+        exif,
+        gain: payloads,
     }
 }

@@ -26,7 +26,7 @@ use Rattle.length.specs.Size.{exif-size}
 use Rattle.locations.specs.Spans.{spans}
 use Rattle.locations.proofs.Spans.{extents-spans}
 use Rattle.gain_map.specs.Parts.{with-payloads}
-use Rattle.gain_map.specs.declared.location.PayloadLengths.{PayloadLengths}
+use Rattle.locations.specs.declared.PayloadLengths.{PayloadLengths}
 use Rattle.offsets.specs.Laid.{Laid}
 use Rattle.offsets.specs.declared.Layout.{Layout}
 use Rattle.isobmff.specs.Locations.{other-sizes, placed}

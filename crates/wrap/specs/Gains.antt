@@ -6,7 +6,7 @@ use Rattle.panel.specs.Of.{part}
 use Rattle.panel.specs.declared.gain_map.MaybeGainMap.{MaybeGainMap}
 use Rattle.panel.specs.declared.gain_map.MaybeGainMap.the-variants as G
 use Rattle.length.specs.Parts.{long}
-use Rattle.gain_map.specs.declared.location.PayloadLengths.{PayloadLengths}
+use Rattle.locations.specs.declared.PayloadLengths.{PayloadLengths}
 
 abbrev pub gain-lengths : MaybeGainMap → List ℕ → List ℕ → List ℕ → PayloadLengths
 gain-lengths G.None sample xmp tone = record { sample = 0; xmp = 0; tmap = 0 }

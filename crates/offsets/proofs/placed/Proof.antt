@@ -7,7 +7,7 @@ use Rattle.offsets.proofs.placed.Tie as tie
 
 returns : tie.Need-returns
 returns c =
-    let start = c .before .before .before .before .before .before in
+    let start = c .before .before .before .before .before .before .before .before in
     λ f p g.
     let x = as-lengths f p (start .args .z) (g .even) (g .sized) (start .pre .file) in
     record {
@@ -26,9 +26,11 @@ returns c =
       color-data = omega (arith, x .data-at);
       alpha-data = omega (arith, x .data-at, g .colors);
       other-data = omega (arith, x .data-at, g .colors, g .alphas);
+      exif = x .exif;
+      gain = x .gain;
       color-rext = g .color-rext;
       gain-rext = g .gain-rext;
     }
 
 pub placed-spec : {M : Type 1} → statement M
-placed-spec = tie.close (tie.spec (λ c. search needs) (λ c. search needs) (λ c. search needs) (λ c. search needs) (λ c. search needs) (λ c. search needs) (λ c. search needs) (λ c. search needs) (λ c. search needs) (λ c. search needs) (λ c. search needs) (λ c. search needs) returns)
+placed-spec = tie.close (tie.spec (λ c. search needs) (λ c. search needs) (λ c. search needs) (λ c. search needs) (λ c. search needs) (λ c. search needs) (λ c. search needs) (λ c. search needs) (λ c. search needs) (λ c. search needs) (λ c. search needs) (λ c. search needs) (λ c. search needs) returns)

@@ -23,7 +23,7 @@ returns c =
         image-fits (ap (λ (g : GainPlaces). g .image) placed) (omega (arith, start .pre)) (c1 .when .ensures .1),
         (
           tone-fits (ap (λ (g : GainPlaces). g .tone) placed) (omega (arith, start .pre, c1 .when .ensures .1)) (c2 .when2 .ensures .1) (c3 .gain-alternates .ensures .1),
-          omega (arith, next),
+          (omega (arith, next), omega (arith, next, c1 .when .ensures .1, c2 .when2 .ensures .1, c3 .gain-alternates .ensures .1)),
         ),
       ),
     )

@@ -23,7 +23,7 @@ sub-t17 c =
     let c3 = c4 .before in
     let c2 = c3 .before in
     let c1 = c2 .before in
-    omega (arith, (c4 .panel-gain .ensures) .1 .1 .1, (c3 .panel-options .ensures) .0 [] .1, (c2 .alpha-places .ensures) .1, (c1 .color-places .ensures) .1)
+    omega (arith, (c4 .panel-gain .ensures) .1 .1 .1 .0, (c3 .panel-options .ensures) .0 [] .1, (c2 .alpha-places .ensures) .1, (c1 .color-places .ensures) .1)
 
 returns : tie.Need-returns
 unfolding panel-of
@@ -51,7 +51,7 @@ returns c =
     let n4 = (c4 .panel-gain .ensures) .0 l .1 ∙ ap (λ (n : ℕ). behind-gain n g t a) n3 in
     let count : c4 .panel-gain .result .positions .next .0 - 1 ≡ laid-of p s .count = omega (arith, n4) in
     placed-of p s _ h (λ i. record { color = (c1 .color-places .ensures) .0 i; alpha = alpha i; options = options i; image = gain i .image; tone = gain i .tone; count = count i }) in
-    (given-lent, record { color = color-fits ((c1 .color-places .ensures) .0); alpha = alpha-fits alpha; options = (c3 .panel-options .ensures) .1 .0; image = (c4 .panel-gain .ensures) .1 .0; tone = (c4 .panel-gain .ensures) .1 .1 .0 })
+    (given-lent, record { count = omega (arith, n1, n2, (c3 .panel-options .ensures) .1 .1, (c4 .panel-gain .ensures) .1 .1 .1 .1); color = color-fits ((c1 .color-places .ensures) .0); alpha = alpha-fits alpha; options = (c3 .panel-options .ensures) .1 .0; image = (c4 .panel-gain .ensures) .1 .0; tone = (c4 .panel-gain .ensures) .1 .1 .0 })
 
 pub places-of-spec : {M : Type 1} → statement M
 places-of-spec = tie.close (tie.spec (λ c κs. search needs) (λ c κs. search needs) (λ c κs. search needs) (λ c κs. search needs) sub-t17 returns)

@@ -5,7 +5,7 @@ use Rattle.octets.proofs.Stores.{kept, told, _▸_}
 use Rattle.layout.specs.Lent.{lent}
 use Rattle.wrap.proofs.Ready.{shaped, sided, item-sizes, property-sizes, meta-sum, ftyp-sum, mdat-whole, mdat-short, color-count, alpha-count, color-end, alpha-end, other-end, file-sum}
 use Rattle.wrap.proofs.Made.{made-file-of}
-use Rattle.gain_map.specs.declared.location.PayloadLengths.{PayloadLengths}
+use Rattle.locations.specs.declared.PayloadLengths.{PayloadLengths}
 use Rattle.wrap.proofs.write_file.Statement.{statement}
 use Rattle.wrap.proofs.write_file.Tie as tie
 

@@ -1,7 +1,8 @@
 -- Code points, or the profile.
 use borrow.Author.Needs.{needs}
 use native.Mathlib.Omega.{arith}
-use Rattle.sizes.proofs.Caps.{_⊕_, exact}
+use mathlib.Core.Path.{refl}
+use Rattle.sizes.proofs.Caps.{_⊕_, exact, renamed}
 use Rattle.sizes.proofs.properties.profile_or_unspecified_size.Statement.{statement}
 use Rattle.sizes.proofs.properties.profile_or_unspecified_size.Tie as tie
 
@@ -11,7 +12,7 @@ returns c =
 
 returns-2 : tie.Need-returns-2
 returns-2 c =
-    (λ x h. rw (c .enum-told2 .given .1) (exact ⊕ h), omega arith)
+    (λ x h. rw (c .enum-told2 .given .1) (renamed (exact {k = 12} ⊕ h) (omega arith) refl), omega arith)
 
 pub profile-or-unspecified-size-spec : {M : Type 1} → statement M
 profile-or-unspecified-size-spec = tie.close (tie.spec (λ c. search needs) (λ c. search needs) (λ c. search needs) returns returns-2)

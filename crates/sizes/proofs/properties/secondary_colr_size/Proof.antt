@@ -1,14 +1,19 @@
 -- A profile beside code points, or nothing.
 use borrow.Author.Needs.{needs}
 use native.Mathlib.Omega.{arith}
-use Rattle.sizes.proofs.Caps.{exact}
+use mathlib.Core.Path.{refl}
+use Rattle.octets.proofs.Lists.{cond-mul}
+use Rattle.panel.specs.Items.{has}
+use Rattle.panel.specs.Of.{part}
+use Rattle.sizes.proofs.Caps.{_⊕_, exact, renamed}
 use Rattle.sizes.proofs.properties.secondary_colr_size.Statement.{statement}
 use Rattle.sizes.proofs.properties.secondary_colr_size.Tie as tie
 
 returns : tie.Need-returns
 returns c =
     let c1 = c in
-    (λ x h. rw (c .before .enum-told .given .1) ((c1 .part-size .ensures) .0 x h), (c1 .part-size .ensures) .1)
+    let start = c1 .before .before .before in
+    (λ x h. let b = has (part (start .args .c .icc) x) in rw (c .before .enum-told .given .1) (renamed (exact ⊕ (c1 .part-size .ensures) .0 x h) refl (omega (arith, cond-mul b 12, cond-mul b 4))), (c1 .part-size .ensures) .1)
 
 returns-2 : tie.Need-returns-2
 returns-2 c =

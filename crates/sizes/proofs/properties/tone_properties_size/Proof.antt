@@ -1,7 +1,8 @@
 -- Nothing, or size, depth and the alternate colour.
 use borrow.Author.Needs.{needs}
 use native.Mathlib.Omega.{arith}
-use Rattle.sizes.proofs.Caps.{_⊕_, exact}
+use mathlib.Core.Path.{refl}
+use Rattle.sizes.proofs.Caps.{_⊕_, exact, renamed}
 use Rattle.sizes.proofs.properties.tone_properties_size.Statement.{statement}
 use Rattle.sizes.proofs.properties.tone_properties_size.Tie as tie
 
@@ -12,7 +13,7 @@ returns c =
 returns-2 : tie.Need-returns-2
 returns-2 c =
     let c1 = c in
-    (λ t x h. rw (c .before .enum-told2 .given .1) (exact ⊕ (c1 .alternate-size .ensures) .0 x h), omega (arith, (c1 .alternate-size .ensures) .1))
+    (λ t x h. rw (c .before .enum-told2 .given .1) (renamed (exact {k = 36} ⊕ (c1 .alternate-size .ensures) .0 x h) (omega arith) refl), omega (arith, (c1 .alternate-size .ensures) .1))
 
 pub tone-properties-size-spec : {M : Type 1} → statement M
 tone-properties-size-spec = tie.close (tie.spec (λ c. search needs) (λ c. search needs) (λ c κs. search needs) (λ c. search needs) returns returns-2)

@@ -1,0 +1,10 @@
+-- How many bytes the payloads of a gain map have.
+use mathlib.Core.Option.{Option, none, some}
+use lib.ListN.{length}
+use Rattle.panel.specs.Panel.{Gain}
+use Rattle.length.specs.Parts.{long}
+use Rattle.locations.specs.declared.PayloadLengths.{PayloadLengths}
+
+abbrev pub gain-lengths : Option Gain → PayloadLengths
+gain-lengths none = record { sample = 0; xmp = 0; tmap = 0 }
+gain-lengths (some g) = record { sample = length (g .sample); xmp = length (g .xmp); tmap = long (g .tone) }

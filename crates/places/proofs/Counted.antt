@@ -1,0 +1,58 @@
+-- How many properties the places of a panel have, in all and of those that may be absent.
+use mathlib.Core.Path.{_≡_, refl, sym, ap, _∙_}
+use mathlib.Core.Bool.{cond}
+use mathlib.Core.Option.{Option, none, some}
+use mathlib.Core.List.{List}
+use Prim.Native.Nat.{ℕ, _+_}
+use native.Mathlib.Omega.{arith}
+use lib.ListN.{length}
+use Rattle.panel.specs.Panel.{Gain, Panel}
+use Rattle.panel.specs.Items.{has, tone-of}
+use Rattle.panel.specs.Types.{irot-steps, imir-axis}
+use Rattle.panel.specs.Ipco
+use Rattle.panel.specs.Ipma.{positions}
+use Rattle.panel.proofs.Ids.{length-ids-from}
+use Rattle.length.specs.Properties.{second-colr-count, irot-count, imir-count, alternates-count, gain-association-count}
+use Rattle.length.proofs.Properties.{length-optional}
+use Rattle.boxes.specs.Runs.{places}
+use Rattle.boxes.specs.declared.association.Run.{Run}
+use Rattle.boxes.proofs.Marks.{length-places}
+use Rattle.places.specs.Roles.{its-of, Placed}
+use Rattle.places.specs.declared.Places.{Places}
+use Rattle.places.proofs.Roles.{in-all, length-second-colr, length-clli, length-alternates, alternate-colrs}
+
+module _ (p : Panel) (y : Places) (h : Placed p y) where
+  pub irot-placed : y .options .irot .count ≡ irot-count (p .metadata .orientation)
+  unfolding its-of
+  irot-placed = sym (length-places (y .options .irot)) ∙ ap length (h .role Ipco.irot) ∙ length-ids-from _ _ ∙ length-optional "irot" (Ipco.irot-payload (irot-steps (p .metadata .orientation)))
+
+  pub imir-placed : y .options .imir .count ≡ imir-count (p .metadata .orientation)
+  unfolding its-of
+  imir-placed = sym (length-places (y .options .imir)) ∙ ap length (h .role Ipco.imir) ∙ length-ids-from _ _ ∙ length-optional "imir" (Ipco.imir-payload (imir-axis (p .metadata .orientation)))
+
+  pub clli-placed : y .options .clli .count ≡ cond (has (p .metadata .light)) 1 0
+  unfolding its-of
+  clli-placed = sym (length-places (y .options .clli)) ∙ ap length (h .role Ipco.clli) ∙ length-ids-from _ _ ∙ sym (length-clli (p .metadata .light))
+
+gain-all : (g : Option Gain) → let k = cond {A = ℕ} (has g) 1 0 in let t = cond {A = ℕ} (has (tone-of g)) 1 0 in k + k + k + k + k + t + t + alternate-colrs g ≡ gain-association-count 0 g
+gain-all none = refl
+gain-all (some g) = toned (g .tone)
+  where
+    toned : (t : Option (List ℕ)) → let k = cond {A = ℕ} (has t) 1 0 in
+        1 + 1 + 1 + 1 + 1 + k + k + cond (has t) (length (Ipco.alternates (g .alternate))) 0 ≡ 5 + 0 + cond (has t) (2 + alternates-count (g .alternate)) 0
+    toned none = refl
+    toned (some t) = omega (arith, length-alternates (g .alternate))
+
+pub all-placed : (p : Panel) (y : Places) → Placed p y
+    → y .count ≡ 8 + second-colr-count (p .colour .cicp) (p .colour .icc) + irot-count (p .metadata .orientation) + imir-count (p .metadata .orientation) + cond (has (p .metadata .light)) 1 0 + gain-association-count 0 (p .gain)
+all-placed p y h =
+    omega (
+      arith,
+      h .count,
+      in-all p,
+      length-second-colr (p .colour .cicp) (p .colour .icc),
+      length-optional "irot" (Ipco.irot-payload (irot-steps (p .metadata .orientation))),
+      length-optional "imir" (Ipco.imir-payload (imir-axis (p .metadata .orientation))),
+      length-clli (p .metadata .light),
+      gain-all (p .gain),
+    )
