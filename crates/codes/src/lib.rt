@@ -174,7 +174,7 @@ pub enum CodeKind {
     Matrix,
 }
 
-// Whether a value of this kind has this code. Above 8 calls by its kinds: a look-up for each.
+// Whether a value of this kind has this code.
 pub fn is_code(kind: CodeKind, code: u16) -> bool
     ensures { λ r. ⌜ r ≡ is-code kind code ⌝ }
 {

@@ -47,7 +47,6 @@ fn write_idat(out: &mut [u8], at: usize, size: u32, d: GridDims) -> usize
 }
 
 // hdlr, pitm, iloc, iinf and iref.
-// Above 40 lines by its parameters, one to a line: each byte part is a slice of its own.
 fn write_item_boxes(
     out: &mut [u8],
     at: usize,
@@ -175,7 +174,6 @@ fn write_property_boxes(
 }
 
 // meta: its head, the boxes of the items, and those of their properties. It takes the seven slices that these need.
-// Above 40 lines by its parameters, one to a line: each byte part is a slice of its own.
 pub fn write_meta(
     out: &mut [u8],
     at: usize,

@@ -37,7 +37,6 @@ fn tell(a: Answer) -> Told
 }
 
 // The length of a panel's file, or the number of its refusal.
-// Above 40 lines by its parameters, one to a line: each byte part is a slice of its own.
 #[no_mangle]
 pub extern "C" fn kahopiru_file_length(
     panel: PanelCodes,
@@ -80,7 +79,6 @@ pub extern "C" fn kahopiru_file_length(
 }
 
 // The file of a panel in the output, and its length; or the number of its refusal, and the output as it was.
-// Above 40 lines by its parameters, one to a line: each byte part is a slice of its own.
 #[no_mangle]
 pub extern "C" fn kahopiru_write(
     panel: PanelCodes,

@@ -106,7 +106,6 @@ fn first_checks(
 }
 
 // The plan of a panel's file: the checks 1 to 5 in their order, and all numbers of the file.
-// Above 40 lines and 8 calls by its parameters and numbers, one to a line: each byte part is a slice of its own.
 pub fn plan_of(
     form: FileForm,
     panel: Panel,

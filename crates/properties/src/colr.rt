@@ -30,7 +30,6 @@ fn range_byte(full_range: bool) -> u8
 }
 
 // By code points.
-// Above 8 calls by its four codes, each of which is asked for and written.
 pub fn write_colr_nclx(out: &mut [u8], at: usize, enc: Cicp) -> usize
     requires { ⌜ at + 19 ≤ length (now out) ⌝ }
     ensures { λ r. ⌜ Boxed (now (out .entry)) at 19 (box "colr" (nclx-payload enc) ∷ []) (now (out .exit)) r ⌝ }

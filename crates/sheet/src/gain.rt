@@ -77,7 +77,6 @@ fn read_image(sheet: &[u8], c: Cursor) -> ImageRead
 }
 
 // The gain map, if its bit stands, with its tone map and its alternate colour if theirs do.
-// Above 40 lines by its fields, one to a line.
 pub fn read_gain(sheet: &[u8], c: Cursor, m: Map) -> GainRead
     ensures { λ r. ⌜ Reads (now (sheet .entry)) c (optional (m .«gain_map») (gain m)) (maybe-gain-said (now (sheet .entry)) (r .spans) (r .gain)) (r .next) ⌝ }
 {

@@ -36,7 +36,6 @@ pub struct SheetRead {
 }
 
 // All fields of a sheet. The lengths go to two lists that have an entry for every four bytes of the sheet.
-// Above 40 lines by its fields, one to a line.
 pub fn read_sheet(sheet: &[u8], color: &mut [u32], alpha: &mut [u32]) -> SheetRead
     requires { ⌜ length (now sheet) ≤ 4 * length (now color) ⌝ }
     requires { ⌜ length (now sheet) ≤ 4 * length (now alpha) ⌝ }

@@ -27,7 +27,6 @@ pub struct PicturesRead {
 }
 
 // Both records, n lengths for each picture, and bytes for the sum of the lengths.
-// Above 40 lines by its fields, one to a line.
 pub fn read_pictures(
     sheet: &[u8],
     c: Cursor,

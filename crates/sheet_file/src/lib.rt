@@ -46,7 +46,6 @@ fn tell(a: Answer) -> SheetAnswer
 }
 
 // The file of a sheet that is read, in the output.
-// Above 8 calls by its parts: each byte part is a span of the sheet.
 fn write_panel(
     sheet: &[u8],
     r: SheetRead,

@@ -31,7 +31,6 @@ pub fn capped(n: usize) -> u32
 }
 
 // The lengths of the gain map's parts.
-// Above 8 calls, and 5 slices, by its parts: of each the length is asked for and capped.
 pub fn gain_lengths(hvcc: &[u8], sample: &[u8], xmp: &[u8], tmap: &[u8], icc: &[u8]) -> GainLengths
     ensures { λ r. ⌜ Gain-measured (now (hvcc .entry)) (now (sample .entry)) (now (xmp .entry)) (now (tmap .entry)) (now (icc .entry)) r ⌝ }
 {
@@ -45,7 +44,6 @@ pub fn gain_lengths(hvcc: &[u8], sample: &[u8], xmp: &[u8], tmap: &[u8], icc: &[
 }
 
 // The lengths of all parts, with those of the gain map.
-// Above 8 calls, and 6 slices, by its parts: of each the length is asked for and capped.
 pub fn lengths_of(
     color_hvcc: &[u8],
     alpha_hvcc: &[u8],

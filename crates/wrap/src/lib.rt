@@ -79,7 +79,6 @@ fn gain_parts(gain: MaybeGainMap, sample: &[u8], xmp: &[u8], tmap: &[u8]) -> Pay
 }
 
 // ftyp, meta and mdat of an accepted panel, from the start of the output on.
-// Above 40 lines by its parameters, one to a line: each byte part is a slice of its own.
 fn write_file(
     out: &mut [u8],
     form: FileForm,
