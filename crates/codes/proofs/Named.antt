@@ -3,7 +3,6 @@ use mathlib.Core.Path.{_≡_, refl}
 use mathlib.Core.Bool.{Bool, true, false}
 use mathlib.Core.Option.{Option, none, some}
 use Prim.Native.Nat.{ℕ}
-use Rattle.panel.specs.Items.{ids-from}
 use Rattle.panel.specs.declared.fmt.BitDepth.{BitDepth}
 use Rattle.panel.specs.declared.fmt.BitDepth.the-variants.{Eight, Ten, Twelve}
 use Rattle.panel.specs.declared.metadata.Orientation.{Orientation}
@@ -22,9 +21,8 @@ depth-found Twelve = refl
 pub depth-finds : (n : ℕ) (a : BitDepth) → depth-code a ≡ n → some a ≡ depth-named n
 depth-finds = finds depth-code every-depth depth-found
 
-pub depth-misses : (n : ℕ) → Misses n (ids-from 0 3) → none ≡ depth-named n
-unfolding every-depth
-depth-misses = misses depth-code every-depth depth-found (ids-from 0 3) tt
+pub depth-misses : (n : ℕ) → Misses depth-code n every-depth → none ≡ depth-named n
+depth-misses = misses depth-code every-depth
 
 -- ---- orientation
 
@@ -42,9 +40,8 @@ orientation-found Rotate270 = refl
 pub orientation-finds : (n : ℕ) (a : Orientation) → orientation-code a ≡ n → some a ≡ orientation-named n
 orientation-finds = finds orientation-code every-orientation orientation-found
 
-pub orientation-misses : (n : ℕ) → Misses n (ids-from 0 8) → none ≡ orientation-named n
-unfolding every-orientation
-orientation-misses = misses orientation-code every-orientation orientation-found (ids-from 0 8) tt
+pub orientation-misses : (n : ℕ) → Misses orientation-code n every-orientation → none ≡ orientation-named n
+orientation-misses = misses orientation-code every-orientation
 
 -- ---- yes or no
 
@@ -56,6 +53,5 @@ bool-found true = refl
 pub bool-finds : (n : ℕ) (a : Bool) → bool-code a ≡ n → some a ≡ yes-no n
 bool-finds = finds bool-code every-bool bool-found
 
-pub bool-misses : (n : ℕ) → Misses n (ids-from 0 2) → none ≡ yes-no n
-unfolding every-bool
-bool-misses = misses bool-code every-bool bool-found (ids-from 0 2) tt
+pub bool-misses : (n : ℕ) → Misses bool-code n every-bool → none ≡ yes-no n
+bool-misses = misses bool-code every-bool

@@ -1,17 +1,16 @@
 -- The enums by their codes: a value has one code, no two values share one, and a code outside the table is no value's.
 -- One computed look-up of each value in the list of all gives all three.
 use mathlib.Core.Path.{_≡_, refl, sym, ap, _∙_}
-use mathlib.Core.Bool.{Bool, true, false, _&&_, _||_, cond}
+use mathlib.Core.Bool.{Bool, true, false, _&&_, cond}
 use mathlib.Core.Option.{Option, none, some}
-use mathlib.Core.List.{List, [], _∷_, map}
+use mathlib.Core.List.{List, [], _∷_}
 use Prim.Native.Nat.{ℕ, _*_, _^_, _<_}
 use native.Mathlib.Omega.{arith}
 use lib.Dec.{T, eqb, ltb}
 use borrow.Author.Tests.{eqb-true, ltb-true}
-use Rattle.octets.specs.Numbers.{_‖_, be}
+use Rattle.octets.specs.Numbers.{be}
 use Rattle.octets.proofs.Numbers.{be-inj}
 use Rattle.panel.specs.Types.{bits, primaries-code, transfer-code, matrix-code}
-use Rattle.panel.specs.Items.{ids-from}
 use Rattle.panel.specs.Codes.{named, every-primaries, primaries-named, every-transfer, transfer-named, every-matrix, matrix-named}
 use Rattle.panel.specs.declared.fmt.BitDepth.{BitDepth}
 use Rattle.panel.specs.declared.fmt.BitDepth.the-variants.{Eight, Ten, Twelve}
@@ -22,27 +21,6 @@ use Rattle.panel.specs.declared.color.TransferFunction.the-variants as T
 use Rattle.panel.specs.declared.color.MatrixCoefficients.{MatrixCoefficients}
 use Rattle.panel.specs.declared.color.MatrixCoefficients.the-variants as M
 
--- B holds, and n is none of these, in the order in which a match asks
-abbrev pub Misses-after : Type 0 → ℕ → List ℕ → Type 0
-Misses-after B n [] = B
-Misses-after B n (k ∷ l) = Misses-after (B × (n ≡ k → ⊥)) n l
-
-abbrev pub Misses : ℕ → List ℕ → Type 0
-Misses n l = Misses-after (Unit {0}) n l
-
-abbrev among : ℕ → List ℕ → Bool
-among k [] = false
-among k (j ∷ l) = eqb k j || among k l
-
--- what was asked and missed is none of those asked
-differs : {B : Type 0} (n : ℕ) (l : List ℕ) → Misses-after B n l → B × ((k : ℕ) → among k l ≡ true → n ≡ k → ⊥)
-differs n [] m = (m, λ k e p. let z : _≡_ {A = ℕ} 0 1 = cc in omega arith)
-differs n (j ∷ l) m = let r = differs n l m in (r .0 .0, λ k e p. go k (eqb k j) refl e p (r .0 .1) (r .1))
-  where
-    go : (k : ℕ) (b : Bool) → eqb k j ≡ b → (b || among k l) ≡ true → n ≡ k → (n ≡ j → ⊥) → ((k : ℕ) → among k l ≡ true → n ≡ k → ⊥) → ⊥
-    go k true e f p g r = g (p ∙ eqb-true k j e)
-    go k false e f p g r = r k f p
-
 some-inj : {A : Type 0} {a b : A} → some a ≡ some b → a ≡ b
 some-inj e = cc
 
@@ -51,19 +29,25 @@ module _ {A : Type 0} (code : A → ℕ) where
   below k [] = true
   below k (a ∷ l) = ltb (code a) k && below k l
 
-  -- whether each value's code is among those that were asked
-  abbrev asked : List ℕ → List A → Bool
-  asked ks [] = true
-  asked ks (a ∷ l) = among (code a) ks && asked ks l
+  -- B holds, and n is the code of none of these, in the order in which a match asks
+  abbrev pub Misses-after : Type 0 → ℕ → List A → Type 0
+  Misses-after B n [] = B
+  Misses-after B n (a ∷ l) = Misses-after (B × (n ≡ code a → ⊥)) n l
 
-  missed : (n : ℕ) (ks : List ℕ) → Misses n ks → (l : List A) → T (asked ks l) → named code l n ≡ none
-  missed n ks m [] t = refl
-  missed n ks m (a ∷ l) t = go (eqb n (code a)) (among (code a) ks) refl refl t (missed n ks m l)
+  abbrev pub Misses : ℕ → List A → Type 0
+  Misses n l = Misses-after (Unit {0}) n l
+
+  missed : {B : Type 0} (n : ℕ) (l : List A) → Misses-after B n l → B × (none ≡ named code l n)
+  missed n [] m = (m, refl)
+  missed n (a ∷ l) m = let r = missed n l m in (r .0 .0, go (eqb n (code a)) refl (r .0 .1) (r .1))
     where
-      go : (b d : Bool) → eqb n (code a) ≡ b → among (code a) ks ≡ d → T (d && asked ks l) → (T (asked ks l) → named code l n ≡ none) → cond b (some a) (named code l n) ≡ none
-      go true true e f t r = absurd (differs {B = Unit {0}} n ks m .1 (code a) f (eqb-true n (code a) e))
-      go false true e f t r = r t
-      go b false e f t r = absurd t
+      go : (b : Bool) → eqb n (code a) ≡ b → (n ≡ code a → ⊥) → none ≡ named code l n → none ≡ cond b (some a) (named code l n)
+      go true e f r = absurd (f (eqb-true n (code a) e))
+      go false e f r = r
+
+  -- a code that no arm of a match has names nothing
+  pub misses : (l : List A) (n : ℕ) → Misses n l → none ≡ named code l n
+  misses l n m = missed {B = Unit {0}} n l m .1
 
   bounded : (k n : ℕ) (l : List A) (a : A) → T (below k l) → named code l n ≡ some a → code a < k
   bounded k n [] a t e = absurd (let z : _≡_ {A = ℕ} 0 1 = cc in omega arith)
@@ -98,10 +82,6 @@ module _ {A : Type 0} (code : A → ℕ) where
     pub finds : (n : ℕ) (a : A) → code a ≡ n → some a ≡ named code every n
     finds n a e = sym (found a) ∙ ap (λ (k : ℕ). named code every k) e
 
-    -- a code that no arm of a match has names nothing
-    pub misses : (ks : List ℕ) → T (asked ks every) → (n : ℕ) → Misses n ks → none ≡ named code every n
-    misses ks t n m = sym (missed n ks m every t)
-
 -- ---- Primaries
 
 pub primaries-found : (a : Primaries) → primaries-named (primaries-code a) ≡ some a
@@ -125,8 +105,8 @@ primaries-inj = bytes-inj primaries-code every-primaries primaries-found 2 tt
 pub primaries-finds : (n : ℕ) (a : Primaries) → primaries-code a ≡ n → some a ≡ primaries-named n
 primaries-finds = finds primaries-code every-primaries primaries-found
 
-pub primaries-misses : (n : ℕ) → Misses n (ids-from 0 13 ‖ 22 ∷ []) → none ≡ primaries-named n
-primaries-misses = misses primaries-code every-primaries primaries-found (ids-from 0 13 ‖ 22 ∷ []) tt
+pub primaries-misses : (n : ℕ) → Misses primaries-code n every-primaries → none ≡ primaries-named n
+primaries-misses = misses primaries-code every-primaries
 
 -- ---- TransferFunction
 
@@ -156,8 +136,8 @@ transfer-inj = bytes-inj transfer-code every-transfer transfer-found 2 tt
 pub transfer-finds : (n : ℕ) (a : TransferFunction) → transfer-code a ≡ n → some a ≡ transfer-named n
 transfer-finds = finds transfer-code every-transfer transfer-found
 
-pub transfer-misses : (n : ℕ) → Misses n (ids-from 0 19) → none ≡ transfer-named n
-transfer-misses = misses transfer-code every-transfer transfer-found (ids-from 0 19) tt
+pub transfer-misses : (n : ℕ) → Misses transfer-code n every-transfer → none ≡ transfer-named n
+transfer-misses = misses transfer-code every-transfer
 
 -- ---- MatrixCoefficients
 
@@ -187,8 +167,8 @@ matrix-inj = bytes-inj matrix-code every-matrix matrix-found 2 tt
 pub matrix-finds : (n : ℕ) (a : MatrixCoefficients) → matrix-code a ≡ n → some a ≡ matrix-named n
 matrix-finds = finds matrix-code every-matrix matrix-found
 
-pub matrix-misses : (n : ℕ) → Misses n (ids-from 0 18) → none ≡ matrix-named n
-matrix-misses = misses matrix-code every-matrix matrix-found (ids-from 0 18) tt
+pub matrix-misses : (n : ℕ) → Misses matrix-code n every-matrix → none ≡ matrix-named n
+matrix-misses = misses matrix-code every-matrix
 
 -- ---- BitDepth
 

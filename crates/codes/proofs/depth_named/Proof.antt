@@ -1,8 +1,13 @@
 -- Each arm gives the value with that code; a code that no arm has is that of no value.
 use borrow.Author.Needs.{needs}
+use Rattle.codes.specs.Codes.{every-depth}
 use Rattle.codes.proofs.Named.{depth-finds, depth-misses}
 use Rattle.codes.proofs.depth_named.Statement.{statement}
 use Rattle.codes.proofs.depth_named.Tie as tie
+
+missing : tie.Need-returns-4
+unfolding every-depth
+missing c = depth-misses _ (c .match .rest)
 
 pub depth-named-spec : {M : Type 1} → statement M
 depth-named-spec =
@@ -11,4 +16,4 @@ depth-named-spec =
     (λ c. depth-finds _ _ (search needs))
     (λ c. depth-finds _ _ (search needs))
     (λ c. depth-finds _ _ (search needs))
-    (λ c. depth-misses _ (c .match .rest)))
+    missing)

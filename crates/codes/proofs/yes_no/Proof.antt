@@ -1,8 +1,13 @@
 -- Each arm gives the value with that code; a code that no arm has is that of no value.
 use borrow.Author.Needs.{needs}
+use Rattle.codes.specs.Codes.{every-bool}
 use Rattle.codes.proofs.Named.{bool-finds, bool-misses}
 use Rattle.codes.proofs.yes_no.Statement.{statement}
 use Rattle.codes.proofs.yes_no.Tie as tie
+
+missing : tie.Need-returns-3
+unfolding every-bool
+missing c = bool-misses _ (c .match .rest)
 
 pub yes-no-spec : {M : Type 1} → statement M
 yes-no-spec =
@@ -10,4 +15,4 @@ yes-no-spec =
     (tie.spec
     (λ c. bool-finds _ _ (search needs))
     (λ c. bool-finds _ _ (search needs))
-    (λ c. bool-misses _ (c .match .rest)))
+    missing)

@@ -1,6 +1,5 @@
 -- Each arm gives the variant with that code; a code that no arm has is that of no variant.
-use mathlib.Core.Path.{sym, ap}
-use Rattle.panel.specs.Codes.{primaries-named}
+use mathlib.Core.Path.{sym}
 use Rattle.panel.proofs.Codes.{primaries-finds, primaries-misses}
 use Rattle.panel.proofs.color.Primaries.from_code.Statement.{statement}
 use Rattle.panel.proofs.color.Primaries.from_code.Tie as tie
@@ -12,7 +11,7 @@ from-code-spec =
     (λ c. primaries-finds (c .before .args .code) _ (sym (c .match .keys1)))
     (λ c. primaries-finds (c .before .args .code) _ (sym (c .match .keys2)))
     (λ c. primaries-finds (c .before .args .code) _ (sym (c .match .keys3)))
-    (λ c. ap primaries-named {x = 3} {y = c .before .args .code} (sym (c .match .keys4)))
+    (λ c. primaries-finds (c .before .args .code) _ (sym (c .match .keys4)))
     (λ c. primaries-finds (c .before .args .code) _ (sym (c .match .keys5)))
     (λ c. primaries-finds (c .before .args .code) _ (sym (c .match .keys6)))
     (λ c. primaries-finds (c .before .args .code) _ (sym (c .match .keys7)))
@@ -22,5 +21,4 @@ from-code-spec =
     (λ c. primaries-finds (c .before .args .code) _ (sym (c .match .keys11)))
     (λ c. primaries-finds (c .before .args .code) _ (sym (c .match .keys12)))
     (λ c. primaries-finds (c .before .args .code) _ (sym (c .match .keys13)))
-    (λ c. primaries-finds (c .before .args .code) _ (sym (c .match .keys14)))
     (λ c. primaries-misses (c .before .args .code) (c .match .rest)))

@@ -1,6 +1,5 @@
 -- Each arm gives the variant with that code; a code that no arm has is that of no variant.
-use mathlib.Core.Path.{sym, ap}
-use Rattle.panel.specs.Codes.{transfer-named}
+use mathlib.Core.Path.{sym}
 use Rattle.panel.proofs.Codes.{transfer-finds, transfer-misses}
 use Rattle.panel.proofs.color.TransferFunction.from_code.Statement.{statement}
 use Rattle.panel.proofs.color.TransferFunction.from_code.Tie as tie
@@ -12,7 +11,7 @@ from-code-spec =
     (λ c. transfer-finds (c .before .args .code) _ (sym (c .match .keys1)))
     (λ c. transfer-finds (c .before .args .code) _ (sym (c .match .keys2)))
     (λ c. transfer-finds (c .before .args .code) _ (sym (c .match .keys3)))
-    (λ c. ap transfer-named {x = 3} {y = c .before .args .code} (sym (c .match .keys4)))
+    (λ c. transfer-finds (c .before .args .code) _ (sym (c .match .keys4)))
     (λ c. transfer-finds (c .before .args .code) _ (sym (c .match .keys5)))
     (λ c. transfer-finds (c .before .args .code) _ (sym (c .match .keys6)))
     (λ c. transfer-finds (c .before .args .code) _ (sym (c .match .keys7)))
@@ -27,5 +26,4 @@ from-code-spec =
     (λ c. transfer-finds (c .before .args .code) _ (sym (c .match .keys16)))
     (λ c. transfer-finds (c .before .args .code) _ (sym (c .match .keys17)))
     (λ c. transfer-finds (c .before .args .code) _ (sym (c .match .keys18)))
-    (λ c. transfer-finds (c .before .args .code) _ (sym (c .match .keys19)))
     (λ c. transfer-misses (c .before .args .code) (c .match .rest)))
