@@ -58,19 +58,6 @@ module _ {A : Type 0} (code : A → ℕ) where
       go false true h t r e = r t e
       go c false h t r e = absurd t
 
-  -- what is looked up has the code
-  its-code : (n : ℕ) (l : List A) (a : A) → named code l n ≡ some a → code a ≡ n
-  its-code n [] a e = absurd (let z : _≡_ {A = ℕ} 0 1 = cc in omega arith)
-  its-code n (b ∷ l) a e = go (eqb n (code b)) refl (its-code n l a) e
-    where
-      go : (c : Bool) → eqb n (code b) ≡ c → (named code l n ≡ some a → code a ≡ n) → cond c (some b) (named code l n) ≡ some a → code a ≡ n
-      go true h r e = let w : b ≡ a = cc in ap code (sym w) ∙ sym (eqb-true n (code b) h)
-      go false h r e = r e
-
-  -- the code by which a value is looked up is its own
-  pub spells : (l : List A) (n : ℕ) (a : A) → some a ≡ named code l n → n ≡ code a
-  spells l n a e = sym (its-code n l a (sym e))
-
   module _ (every : List A) (found : (a : A) → named code every (code a) ≡ some a) where
     pub code-inj : (x y : A) → code x ≡ code y → x ≡ y
     code-inj x y e = some-inj (sym (found x) ∙ ap (λ (n : ℕ). named code every n) e ∙ found y)

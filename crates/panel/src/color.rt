@@ -1,7 +1,6 @@
 // Colour: the code points of ISO/IEC 23091-2 (CICP), and how a picture states its colour.
 ghost use mathlib.Core.Path.{_≡_};
-ghost use mathlib.Core.Option.{some};
-ghost use Rattle.panel.specs.Types.{maybe-primaries, maybe-transfer, maybe-matrix};
+ghost use Rattle.panel.specs.Types.{primaries-code, maybe-primaries, transfer-code, maybe-transfer, matrix-code, maybe-matrix};
 ghost use Rattle.panel.specs.Codes.{primaries-named, transfer-named, matrix-named};
 ghost use Rattle.panel.specs.Items.{has};
 ghost use Rattle.panel.specs.Agreement.{unspecified};
@@ -43,7 +42,7 @@ impl MaybePrimaries {
 impl Primaries {
     // The code point.
     pub fn code(self) -> u16
-        ensures { λ r. ⌜ some self ≡ primaries-named r ⌝ }
+        ensures { λ r. ⌜ r ≡ primaries-code self ⌝ }
     {
         match self {
             Primaries::Reserved => 0,
@@ -127,7 +126,7 @@ impl MaybeTransferFunction {
 impl TransferFunction {
     // The code point.
     pub fn code(self) -> u16
-        ensures { λ r. ⌜ some self ≡ transfer-named r ⌝ }
+        ensures { λ r. ⌜ r ≡ transfer-code self ⌝ }
     {
         match self {
             TransferFunction::Reserved => 0,
@@ -221,7 +220,7 @@ impl MaybeMatrixCoefficients {
 impl MatrixCoefficients {
     // The code point.
     pub fn code(self) -> u16
-        ensures { λ r. ⌜ some self ≡ matrix-named r ⌝ }
+        ensures { λ r. ⌜ r ≡ matrix-code self ⌝ }
     {
         match self {
             MatrixCoefficients::Identity => 0,

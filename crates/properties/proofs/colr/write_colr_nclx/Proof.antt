@@ -3,9 +3,6 @@ use borrow.Author.Needs.{needs}
 use mathlib.Core.Path.{refl, ap}
 use Rattle.octets.proofs.Stores.{_▹_, told, boxed}
 use Rattle.octets.specs.Numbers.{be}
-use Rattle.panel.specs.Types.{primaries-code, transfer-code, matrix-code}
-use Rattle.panel.specs.Codes.{every-primaries, every-transfer, every-matrix}
-use Rattle.panel.proofs.Codes.{spells}
 use Rattle.properties.proofs.colr.write_colr_nclx.Statement.{statement}
 use Rattle.properties.proofs.colr.write_colr_nclx.Tie as tie
 
@@ -21,7 +18,7 @@ returns c =
     let c3 = c4 .before in
     let c2 = c3 .before .before .before .before in
     let c1 = c2 .before .before .before .before .before in
-    boxed "colr" (c1 .write-box .ensures) ((c2 .put .ensures) ▹ told (c4 .w16 .ensures) (ap (be 2) (spells primaries-code every-primaries _ _ (c3 .code .ensures))) refl ▹ told (c6 .w162 .ensures) (ap (be 2) (spells transfer-code every-transfer _ _ (c5 .code2 .ensures))) refl ▹ told (c8 .w163 .ensures) (ap (be 2) (spells matrix-code every-matrix _ _ (c7 .code3 .ensures))) refl ▹ told (c10 .w8 .ensures) (ap (be 1) (c9 .range-byte .ensures)) refl) refl
+    boxed "colr" (c1 .write-box .ensures) ((c2 .put .ensures) ▹ told (c4 .w16 .ensures) (ap (be 2) (c3 .code .ensures)) refl ▹ told (c6 .w162 .ensures) (ap (be 2) (c5 .code2 .ensures)) refl ▹ told (c8 .w163 .ensures) (ap (be 2) (c7 .code3 .ensures)) refl ▹ told (c10 .w8 .ensures) (ap (be 1) (c9 .range-byte .ensures)) refl) refl
 
 pub write-colr-nclx-spec : {M : Type 1} → statement M
 write-colr-nclx-spec = tie.close (tie.spec (λ c κs. search needs) (λ c. search needs) (λ c κs. search needs) (λ c κs. search needs) (λ c κs. search needs) (λ c κs. search needs) (λ c κs. search needs) (λ c κs. search needs) (λ c κs. search needs) (λ c κs. search needs) (λ c κs. search needs) (λ c. search needs) returns)
