@@ -1,9 +1,7 @@
--- The two halves meet: where no code of an encoding stands for nothing, the four name one, and what would be said in its place is not.
+-- The two halves meet: where each code of an encoding stands for something, the four name one, and what would be said in its place is not.
 use mathlib.Core.Path.{_≡_, refl}
-use mathlib.Core.Bool.{Bool, not, cond}
+use mathlib.Core.Bool.{Bool, true, _&&_}
 use mathlib.Core.Option.{Option, none, some, bind, Option·getD as or}
-use Prim.Native.Nat.{ℕ, _+_}
-use native.Mathlib.Omega.{arith}
 use Rattle.panel.specs.Items.{has}
 use Rattle.panel.specs.Codes.{primaries-named, transfer-named, matrix-named}
 use Rattle.panel.specs.declared.color.Primaries.{Primaries}
@@ -14,10 +12,7 @@ use Rattle.panel.specs.Agreement.{unspecified}
 use Rattle.codes.specs.Codes.{yes-no, cicp-named}
 use Rattle.interface.specs.declared.CicpCodes.{CicpCodes}
 use Rattle.numbers.specs.Values.{cicp-value}
-use Rattle.numbers.specs.Known.{unknown, cicp-unknown}
-
-abbrev lacks : {A : Type 0} → Option A → ℕ
-lacks o = cond (not (has o)) 1 0
+use Rattle.numbers.specs.Known.{cicp-known}
 
 abbrev chain : Option Primaries → Option TransferFunction → Option MatrixCoefficients → Option Bool → Option Cicp
 chain p t m r =
@@ -27,14 +22,14 @@ chain p t m r =
     bind r (λ d.
     some (record { primaries = a; transfer = b; matrix = c; «full_range» = d })))))
 
-whole : (p : Option Primaries) (t : Option TransferFunction) (m : Option MatrixCoefficients) (r : Option Bool) (d : Cicp) → lacks p + lacks t + lacks m + lacks r ≡ 0 → chain p t m r ≡ some (or (chain p t m r) d)
+whole : (p : Option Primaries) (t : Option TransferFunction) (m : Option MatrixCoefficients) (r : Option Bool) (d : Cicp) → (has p && has t && has m && has r) ≡ true → chain p t m r ≡ some (or (chain p t m r) d)
 unfolding bind
-whole none t m r d e = let z : ⊥ = omega arith in search
-whole (some p) none m r d e = let z : ⊥ = omega arith in search
-whole (some p) (some t) none r d e = let z : ⊥ = omega arith in search
-whole (some p) (some t) (some m) none d e = let z : ⊥ = omega arith in search
+whole none t m r d e = cc
+whole (some p) none m r d e = cc
+whole (some p) (some t) none r d e = cc
+whole (some p) (some t) (some m) none d e = cc
 whole (some p) (some t) (some m) (some r) d e = refl
 
-pub cicp-there : (c : CicpCodes) → cicp-unknown c ≡ 0 → cicp-named (c .primaries) (c .transfer) (c .matrix) (c .«full_range») ≡ some (cicp-value c)
-unfolding unknown cicp-named
+pub cicp-there : (c : CicpCodes) → cicp-known c ≡ true → cicp-named (c .primaries) (c .transfer) (c .matrix) (c .«full_range») ≡ some (cicp-value c)
+unfolding cicp-named
 cicp-there c e = whole (primaries-named (c .primaries)) (transfer-named (c .transfer)) (matrix-named (c .matrix)) (yes-no (c .«full_range»)) unspecified e

@@ -1,4 +1,4 @@
--- Nothing that the calls count is above 0.
+-- Part by part, as the calls answer.
 use borrow.Author.Needs.{needs}
 use Rattle.numbers.specs.Known.{panel-known}
 use Rattle.numbers.proofs.known.panel_known.Statement.{statement}
@@ -9,4 +9,4 @@ unfolding panel-known
 returns c = cc
 
 pub panel-known-spec : {M : Type 1} → statement M
-panel-known-spec = tie.close (tie.spec (λ c. search needs) (λ c κs. search needs) (λ c. search needs) (λ c κs. search needs) (λ c. search needs) (λ c. search needs) (λ c κs. search needs) (λ c. search needs) (λ c. search needs) (λ c κs. search needs) (λ c. search needs) (λ c. search needs) (λ c κs. search needs) (λ c. search needs) (λ c κs. search needs) (λ c. search needs) (λ c κs. search needs) (λ c κs. search needs) (λ c. search needs) returns)
+panel-known-spec = tie.close (tie.spec (λ c. search needs) (λ c κs. search needs) (λ c. search needs) (λ c κs. search needs) (λ c. search needs) (λ c κs. search needs) (λ c. search needs) (λ c κs. search needs) (λ c. search needs) (λ c κs. search needs) (λ c κs. search needs) (λ c κs. search needs) (λ c κs. search needs) returns)
