@@ -1,5 +1,5 @@
 -- What iloc and mdat say together: the payloads, and with them the samples and their lengths.
-use mathlib.Core.Path.{_≡_, refl, sym, ap, _∙_}
+use mathlib.Core.Path.{_≡_, refl, sym, ap, ap₂, _∙_}
 use mathlib.Core.List.{List, [], _∷_, _++_, map, map-append, append-assoc, flatten, flatMap}
 use Prim.Native.Nat.{ℕ, suc, _+_, _*_, _^_, _≤_, _<_}
 use native.Mathlib.Nat.{add-zero}
@@ -17,20 +17,21 @@ use Rattle.panel.specs.Iloc.{descriptor, Extent, Location, extents, loca
 
 pub length-samples : (l b : List ℕ) → length (samples l b) ≡ length l
 length-samples [] b = refl
-length-samples (n ∷ l) b = ap suc (length-samples l (drop n b))
+length-samples (n ∷ l) b = ap suc (length-samples l _)
 
 pub lengths-samples : (l b : List ℕ) → total l ≤ length b → map length (samples l b) ≡ l
 lengths-samples [] b h = refl
-lengths-samples (n ∷ l) b h =
-    let x = length-take-le n b (omega arith) in
-    let y = lengths-samples l (drop n b) (simp length-drop (omega arith)) in
-    λ i. x i ∷ y i
+lengths-samples (n ∷ l) b h = ap₂ _∷_ (length-take-le n b (omega arith)) (lengths-samples l _ (omega (arith, length-drop n b)))
 
 pub flatten-samples : (l b : List ℕ) → total l ≡ length b → flatten (samples l b) ≡ b
 unfolding flatten
 flatten-samples [] [] h = refl
 flatten-samples [] (x ∷ b) h = absurd (omega arith)
-flatten-samples (n ∷ l) b h = ap (λ (r : List ℕ). take n b ++ r) (flatten-samples l (drop n b) (simp length-drop (omega arith))) ∙ take-append-drop n b
+flatten-samples (n ∷ l) b h = behind (flatten-samples l _ (omega (arith, length-drop n b))) (simp take-append-drop)
+  where
+    -- the other samples are cut from c
+    behind : {c : List ℕ} → flatten (samples l c) ≡ c → take n b ++ c ≡ b → take n b ++ flatten (samples l c) ≡ b
+    behind s e = ap (λ (r : List ℕ). take n b ++ r) s ∙ e
 
 abbrev pub cut : Tiles → List (List ℕ)
 cut t = samples (t .lengths) (t .bytes)
