@@ -1,6 +1,5 @@
-// The checks 1 to 3 of a panel, each of which answers whether it refuses; what check 4 asks of (shape); and the widths of a panel's numbers (fits).
+// The checks 1 to 3 of a panel, each of which answers whether it refuses; and what check 4 asks of (shape).
 
-pub mod fits;
 pub mod shape;
 
 ghost use mathlib.Core.Path.{_≡_};

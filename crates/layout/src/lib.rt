@@ -13,7 +13,6 @@ use boxes::ftyp::hvcc_uses_rext;
 use checks::bad_counts;
 use checks::bad_grid;
 use checks::bad_sums;
-use checks::fits::numbers_fit;
 use checks::shape::last_id;
 use checks::shape::shape_of;
 use grids::descriptor_length;
@@ -126,7 +125,6 @@ pub fn plan_of(
     ensures { λ r. ⌜ Planned (form-of form) (panel-of panel (lent (now («color_hvcc» .entry)) (now («alpha_hvcc» .entry)) (now («color_lengths» .entry)) (now («alpha_lengths» .entry)) (now («color_samples» .entry)) (now («alpha_samples» .entry)) (now (icc .entry)) (now (exif .entry)) (now («gain_hvcc» .entry)) (now («gain_sample» .entry)) (now («gain_xmp» .entry)) (now («gain_tmap» .entry)) (now («alternate_icc» .entry)))) r ⌝ }
     ensures { λ r. ⌜ Fits (panel-of panel (lent (now («color_hvcc» .entry)) (now («alpha_hvcc» .entry)) (now («color_lengths» .entry)) (now («alpha_lengths» .entry)) (now («color_samples» .entry)) (now («alpha_samples» .entry)) (now (icc .entry)) (now (exif .entry)) (now («gain_hvcc» .entry)) (now («gain_sample» .entry)) (now («gain_xmp» .entry)) (now («gain_tmap» .entry)) (now («alternate_icc» .entry)))) ⌝ }
 {
-    let fits = numbers_fit(panel);
     let first = first_checks(
         form,
         panel,

@@ -5,5 +5,6 @@ pub mod Fields
 pub mod Properties
 pub mod Payloads
 pub mod Accepted
+pub mod Widths
 pub mod Norm
 pub mod Unique

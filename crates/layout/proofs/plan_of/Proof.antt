@@ -1,6 +1,7 @@
 -- The first checks, and where they pass, the sizes of the boxes make the file.
 use borrow.Author.Needs.{needs}
 use mathlib.Core.Path.{refl}
+use Rattle.panel.proofs.Widths.{fits}
 use Rattle.layout.specs.Lent.{lent}
 use Rattle.layout.proofs.Answers.{stop-5, room, given, accepted}
 use Rattle.layout.proofs.plan_of.Statement.{statement}
@@ -11,10 +12,10 @@ unfolding lent
 returns c =
     let k = c .before in
     let y = k .before .before in
-    let fits = y .before in
-    let a = fits .before .before .before .before .before .before .before .before .before .before .before .before .before .before .args in
+    let start = y .before .before .before .before .before .before .before .before .before .before .before .before .before .before in
+    let a = start .args in
     let l = lent (a .color-hvcc .now) (a .alpha-hvcc .now) (a .color-lengths .now) (a .alpha-lengths .now) (a .color-samples .now) (a .alpha-samples .now) (a .icc .now) (a .exif .now) (a .gain-hvcc .now) (a .gain-sample .now) (a .gain-xmp .now) (a .gain-tmap .now) (a .alternate-icc .now) in
-    (rw (k .first .given .1) at ((y .first-checks .ensures) l refl refl refl refl), (fits .numbers-fit .ensures) .1 l)
+    (rw (k .first .given .1) at ((y .first-checks .ensures) l refl refl refl refl), fits _ l (start .good .1 .0))
 
 sizes-of-requires : tie.Need-sizes-of-requires
 unfolding lent
@@ -26,8 +27,8 @@ sizes-of-requires c κs =
     let c7 = c8 .before in
     let k = c7 .before .before .before in
     let y = k .before .before in
-    let fits = y .before in
-    let a = fits .before .before .before .before .before .before .before .before .before .before .before .before .before .before .args in
+    let start = y .before .before .before .before .before .before .before .before .before .before .before .before .before .before in
+    let a = start .args in
     let l = lent (a .color-hvcc .now) (a .alpha-hvcc .now) (a .color-lengths .now) (a .alpha-lengths .now) (a .color-samples .now) (a .alpha-samples .now) (a .icc .now) (a .exif .now) (a .gain-hvcc .now) (a .gain-sample .now) (a .gain-xmp .now) (a .gain-tmap .now) (a .alternate-icc .now) in
     let h = rw (k .first2 .given .1) at ((y .first-checks .ensures) l refl refl refl refl) in
     (h .few, (c11 .places-of .ensures) .1)
@@ -44,13 +45,13 @@ returns-2 c =
     let c7 = c8 .before in
     let k = c7 .before .before .before in
     let y = k .before .before in
-    let fits = y .before in
-    let a = fits .before .before .before .before .before .before .before .before .before .before .before .before .before .before .args in
+    let start = y .before .before .before .before .before .before .before .before .before .before .before .before .before .before in
+    let a = start .args in
     let l = lent (a .color-hvcc .now) (a .alpha-hvcc .now) (a .color-lengths .now) (a .alpha-lengths .now) (a .color-samples .now) (a .alpha-samples .now) (a .icc .now) (a .exif .now) (a .gain-hvcc .now) (a .gain-sample .now) (a .gain-xmp .now) (a .gain-tmap .now) (a .alternate-icc .now) in
     let h = rw (k .first2 .given .1) at ((y .first-checks .ensures) l refl refl refl refl) in
     let there = (c11 .places-of .ensures) .0 l (h .items) in
     let sized = (c12 .sizes-of .ensures) .0 l ((c8 .lengths-of .ensures) l refl refl refl refl refl refl (c7 .gain-lengths .ensures)) (h .items) there (c9 .hvcc-uses-rext .ensures) ((c10 .gain-uses-rext .ensures) l refl) in
-    (stop-5 _ _ l h ((c13 .file-size .ensures) _ _ sized) (c .if1 .taken), (fits .numbers-fit .ensures) .1 l)
+    (stop-5 _ _ l h ((c13 .file-size .ensures) _ _ sized) (c .if1 .taken), fits _ l (start .good .1 .0))
 
 placed-requires : tie.Need-placed-requires
 unfolding lent
@@ -65,8 +66,8 @@ placed-requires c κs =
     let c7 = c8 .before in
     let k = c7 .before .before .before in
     let y = k .before .before in
-    let fits = y .before in
-    let a = fits .before .before .before .before .before .before .before .before .before .before .before .before .before .before .args in
+    let start = y .before .before .before .before .before .before .before .before .before .before .before .before .before .before in
+    let a = start .args in
     let l = lent (a .color-hvcc .now) (a .alpha-hvcc .now) (a .color-lengths .now) (a .alpha-lengths .now) (a .color-samples .now) (a .alpha-samples .now) (a .icc .now) (a .exif .now) (a .gain-hvcc .now) (a .gain-sample .now) (a .gain-xmp .now) (a .gain-tmap .now) (a .alternate-icc .now) in
     let h = rw (k .first2 .given .1) at ((y .first-checks .ensures) l refl refl refl refl) in
     let there = (c11 .places-of .ensures) .0 l (h .items) in
@@ -88,15 +89,15 @@ returns-3 c =
     let c7 = c8 .before in
     let k = c7 .before .before .before in
     let y = k .before .before in
-    let fits = y .before in
-    let a = fits .before .before .before .before .before .before .before .before .before .before .before .before .before .before .args in
+    let start = y .before .before .before .before .before .before .before .before .before .before .before .before .before .before in
+    let a = start .args in
     let l = lent (a .color-hvcc .now) (a .alpha-hvcc .now) (a .color-lengths .now) (a .alpha-lengths .now) (a .color-samples .now) (a .alpha-samples .now) (a .icc .now) (a .exif .now) (a .gain-hvcc .now) (a .gain-sample .now) (a .gain-xmp .now) (a .gain-tmap .now) (a .alternate-icc .now) in
     let h = rw (k .first2 .given .1) at ((y .first-checks .ensures) l refl refl refl refl) in
     let there = (c11 .places-of .ensures) .0 l (h .items) in
     let sized = (c12 .sizes-of .ensures) .0 l ((c8 .lengths-of .ensures) l refl refl refl refl refl refl (c7 .gain-lengths .ensures)) (h .items) there (c9 .hvcc-uses-rext .ensures) ((c10 .gain-uses-rext .ensures) l refl) in
     let done = accepted _ _ l h ((c13 .file-size .ensures) _ _ sized) (c14 .before .if1 .left) in
     let laid = (c15 .placed .ensures) _ _ (given _ _ l (done .0) sized (h .items) (c14 .descriptor-length .ensures) (c9 .hvcc-uses-rext .ensures) ((c10 .gain-uses-rext .ensures) l refl)) in
-    (record { accepted = done .0; long = done .1; laid = laid; placed = there; fit = (c11 .places-of .ensures) .1 }, (fits .numbers-fit .ensures) .1 l)
+    (record { accepted = done .0; long = done .1; laid = laid; placed = there; fit = (c11 .places-of .ensures) .1 }, fits _ l (start .good .1 .0))
 
 pub plan-of-spec : {M : Type 1} → statement M
-plan-of-spec = tie.close (tie.spec (λ c κs. search needs) (λ c κs. search needs) (λ c. search needs) returns (λ c. search needs) (λ c κs. search needs) (λ c κs. search needs) (λ c κs. search needs) (λ c κs. search needs) (λ c κs. search needs) sizes-of-requires (λ c κs. search needs) returns-2 (λ c κs. search needs) placed-requires returns-3)
+plan-of-spec = tie.close (tie.spec (λ c κs. search needs) (λ c. search needs) returns (λ c. search needs) (λ c κs. search needs) (λ c κs. search needs) (λ c κs. search needs) (λ c κs. search needs) (λ c κs. search needs) sizes-of-requires (λ c κs. search needs) returns-2 (λ c κs. search needs) placed-requires returns-3)
