@@ -14,7 +14,7 @@ use Rattle.panel.specs.declared.metadata.Orientation.the-variants.{Normal}
 use Rattle.sheet_fields.specs.Read.{Reader, stop, give, _then_}
 use Rattle.sheet_fields.specs.Fields.{bytes, number, string, lengths, optional}
 use Rattle.sheet_fields.specs.Codes.{depth, orientation, cicp}
-use Rattle.sheet_frame.specs.Map.{map}
+use Rattle.sheet_frame.specs.Map.{sheet-map}
 use Rattle.sheet_frame.specs.Frame.{dims, end}
 use Rattle.sheet_frame.specs.declared.map.Map.{Map}
 
@@ -24,8 +24,8 @@ pub record Pictures : Type 0 where
   pub alpha : Tiles
 
 -- both records, n lengths for each, and bytes for the sum of the lengths
-unfoldable pub pictures : ℕ → Reader Pictures
-pictures n =
+unfoldable pub two-pictures : ℕ → Reader Pictures
+two-pictures n =
     string then λ colour-record.
     string then λ alpha-record.
     lengths n then λ colour-lengths.
@@ -93,10 +93,10 @@ gain m =
 
 unfoldable pub fields : Reader Panel
 fields =
-    map then λ m.
+    sheet-map then λ m.
     dims then λ d.
     depth then λ k.
-    pictures (d .rows * d .cols) then λ p.
+    two-pictures (d .rows * d .cols) then λ p.
     colour (m .cicp) (m .icc) then λ c.
     metadata m then λ x.
     optional (m .«gain_map») (gain m) then λ g.

@@ -2,7 +2,7 @@
 ghost use Prim.Native.Nat.{_*_, _≤_};
 ghost use lib.ListN.{length};
 ghost use Rattle.sheet_fields.specs.Cursor.{Reads};
-ghost use Rattle.sheet.specs.Sheet.{pictures};
+ghost use Rattle.sheet.specs.Sheet.{two-pictures};
 ghost use Rattle.sheet.specs.Said.{pictures-of};
 use sheet_fields::Cursor;
 use sheet_fields::Span;
@@ -36,7 +36,7 @@ pub fn read_pictures(
 ) -> PicturesRead
     requires { ⌜ length (now sheet) ≤ 4 * length (now color) ⌝ }
     requires { ⌜ length (now sheet) ≤ 4 * length (now alpha) ⌝ }
-    ensures { λ r. ⌜ Reads (now (sheet .entry)) c (pictures n) (pictures-of (now (sheet .entry)) (r .spans) (now (color .exit)) (now (alpha .exit))) (r .next) ⌝ }
+    ensures { λ r. ⌜ Reads (now (sheet .entry)) c (two-pictures n) (pictures-of (now (sheet .entry)) (r .spans) (now (color .exit)) (now (alpha .exit))) (r .next) ⌝ }
     ensures { λ r. ⌜ r .spans .«color_count» ≤ length (now (color .exit)) ⌝ }
     ensures { λ r. ⌜ r .spans .«alpha_count» ≤ length (now (alpha .exit)) ⌝ }
 {

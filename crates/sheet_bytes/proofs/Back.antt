@@ -18,7 +18,7 @@ use Rattle.sheet_fields.specs.Fields.{string, optional}
 use Rattle.sheet_fields.specs.Codes.{orientation, cicp}
 use Rattle.sheet_frame.specs.Frame.{dims}
 use Rattle.sheet_frame.specs.declared.map.Map.{Map}
-use Rattle.sheet.specs.Sheet.{Pictures, pictures, colour, oriented, light, metadata, image, alternate, gain, fields, sheet}
+use Rattle.sheet.specs.Sheet.{Pictures, two-pictures, colour, oriented, light, metadata, image, alternate, gain, fields, sheet}
 use Rattle.sheet_bytes.specs.Bytes.{string-bytes, cicp-bytes, optional-bytes, dims-bytes, pictures-bytes, colour-bytes, turned, orientation-bytes, light-bytes, metadata-bytes, image-bytes, cicp-in, icc-in, alternate-in, alternate-bytes, gain-bytes, present, pictures-in, sheet-bytes}
 use Rattle.sheet_bytes.specs.Sayable.{Tiled, Shown, Sayable}
 use Rattle.sheet_bytes.proofs.Says.{Says, Ends, and-then, closes, as-well, off-bytes, off-number, off-string, off-lengths, off-optional, and-ends, last-ends}
@@ -40,8 +40,8 @@ off-strings o = off-optional string string-bytes o (of-all off-string o)
 off-cicps : (o : Option _) → Says (optional (has o) cicp) (optional-bytes cicp-bytes o) o
 off-cicps o = off-optional cicp cicp-bytes o (of-all off-cicp o)
 
-off-pictures : (n : ℕ) (p : Pictures) → Tiled n (p .colour) → Tiled n (p .alpha) → total (p .colour .lengths) < 2 ^ 32 → total (p .alpha .lengths) < 2 ^ 32 → Says (pictures n) (pictures-bytes p) p
-unfolding pictures
+off-pictures : (n : ℕ) (p : Pictures) → Tiled n (p .colour) → Tiled n (p .alpha) → total (p .colour .lengths) < 2 ^ 32 → total (p .alpha .lengths) < 2 ^ 32 → Says (two-pictures n) (pictures-bytes p) p
+unfolding two-pictures
 off-pictures n p c a hc ha =
     and-then _ (off-string (p .colour .config))
     (and-then _ (off-string (p .alpha .config))

@@ -14,7 +14,7 @@ use Rattle.panel.specs.Items.{has, tone-of}
 use Rattle.panel.specs.Agreement.{shown}
 use Rattle.panel.specs.Widths.{Of}
 use Rattle.sheet_fields.specs.Read.{give, refuse}
-use Rattle.sheet_frame.specs.Map.{map-of, without, bad-map, judged, map}
+use Rattle.sheet_frame.specs.Map.{map-of, without, bad-map, judged, sheet-map}
 use Rattle.sheet_frame.specs.declared.map.Map.{Map}
 use Rattle.sheet_bytes.specs.Bytes.{cicp-in, icc-in, alternate-in, weight, bits-of, present}
 use Rattle.sheet_bytes.specs.Sayable.{Shown}
@@ -68,8 +68,8 @@ not-loose : (g : Option Gain) → Of Shown g → loose g ≡ false
 not-loose none h = refl
 not-loose (some g) h = loose-of (g .tone) (g .alternate) (h .same)
 
-pub off-map : (p : Panel) → Of Shown (p .gain) → Says map (be 2 (bits-of (present p))) (present p)
-unfolding map judged
+pub off-map : (p : Panel) → Of Shown (p .gain) → Says sheet-map (be 2 (bits-of (present p))) (present p)
+unfolding sheet-map judged
 off-map p h =
     let m = present p in
     let b : bad-map (bits-of m) m ≡ false = ap (λ (x : Bool). x || loose (p .gain)) (le-ltb _ _ (bits-small m)) ∙ not-loose (p .gain) h in

@@ -18,10 +18,10 @@ use Rattle.panel.specs.declared.color.Cicp.{Cicp}
 use Rattle.sheet_fields.specs.Read.{Read, Reader, got, stop, give, onward, _then_}
 use Rattle.sheet_fields.specs.Fields.{bytes, number, string, words, lengths, known, coded, optional}
 use Rattle.sheet_fields.specs.Codes.{cicp}
-use Rattle.sheet_frame.specs.Map.{map-of, bad-map, judged, map}
+use Rattle.sheet_frame.specs.Map.{map-of, bad-map, judged, sheet-map}
 use Rattle.sheet_frame.specs.Frame.{dims, end}
 use Rattle.sheet_frame.specs.declared.map.Map.{Map}
-use Rattle.sheet.specs.Sheet.{Pictures, pictures, colour, oriented, light, metadata, image, alternate, gain, fields}
+use Rattle.sheet.specs.Sheet.{Pictures, two-pictures, colour, oriented, light, metadata, image, alternate, gain, fields}
 use Rattle.sheet_bytes.specs.Sayable.{Tiled}
 
 abbrev pub Short : List ℕ → Type 0
@@ -119,8 +119,8 @@ a-cicp = seq _ (a-code 2 _) (λ p h. seq _ (a-code 2 _) (λ t h. seq _ (a-code 2
 
 -- ---- sections
 
-a-map : Yields map Any
-unfolding map judged
+a-map : Yields sheet-map Any
+unfolding sheet-map judged
 a-map = seq _ (a-number 2) (λ bits h. pick (bad-map bits (map-of bits)) bits)
   where
     pick : (b : Bool) (bits : ℕ) → Yields (cond b (λ s. stop 12) (give (map-of bits))) Any
@@ -140,8 +140,8 @@ pub record Held (n : ℕ) (p : Pictures) : Type 0 where
   pub colour-bytes : Short (p .colour .bytes)
   pub alpha-bytes : Short (p .alpha .bytes)
 
-both-pictures : (n : ℕ) → Yields (pictures n) (Held n)
-unfolding pictures
+both-pictures : (n : ℕ) → Yields (two-pictures n) (Held n)
+unfolding two-pictures
 both-pictures n =
     seq _ a-string (λ c hc. seq _ a-string (λ a ha.
     seq _ (some-lengths n) (λ cl hcl. seq _ (some-lengths n) (λ al hal.

@@ -37,5 +37,5 @@ unfoldable pub judged : ℕ → Reader Map
 judged bits = cond (bad-map bits (map-of bits)) (refuse 12) (give (map-of bits))
 
 -- the map has 16 bits
-unfoldable pub map : Reader Map
-map = number 2 then judged
+unfoldable pub sheet-map : Reader Map
+sheet-map = number 2 then judged

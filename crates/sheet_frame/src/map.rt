@@ -4,7 +4,7 @@ ghost use mathlib.Core.Bool.{_||_};
 ghost use mathlib.Core.List.{List};
 ghost use Prim.Native.Nat.{ℕ};
 ghost use Rattle.sheet_fields.specs.Cursor.{Reads};
-ghost use Rattle.sheet_frame.specs.Map.{map-of, without, bad-map, judged, map};
+ghost use Rattle.sheet_frame.specs.Map.{map-of, without, bad-map, judged, sheet-map};
 use sheet_fields::Cursor;
 use sheet_fields::read_number;
 use sheet_fields::refused;
@@ -89,7 +89,7 @@ fn judge_map(bits: u32, c: Cursor) -> MapRead
 
 // The map: 16 bits.
 pub fn read_map(sheet: &[u8], c: Cursor) -> MapRead
-    ensures { λ r. ⌜ Reads (now (sheet .entry)) c map (r .map) (r .next) ⌝ }
+    ensures { λ r. ⌜ Reads (now (sheet .entry)) c sheet-map (r .map) (r .next) ⌝ }
 {
     let n = read_number(sheet, c, 2);
     let next = n.next;

@@ -1,13 +1,13 @@
 -- Field by field; the bytes run for the sum of the lengths.
 use borrow.Author.Needs.{needs}
-use Rattle.sheet.specs.Sheet.{pictures}
+use Rattle.sheet.specs.Sheet.{two-pictures}
 use Rattle.sheet_fields.proofs.Reading.{goes-on, done}
 use Rattle.sheet.proofs.Fields.{by-sum}
 use Rattle.sheet.proofs.picture.read_pictures.Statement.{statement}
 use Rattle.sheet.proofs.picture.read_pictures.Tie as tie
 
 returns : tie.Need-returns
-unfolding pictures
+unfolding two-pictures
 returns c =
     let b2 = c .before .before .before .before .before in
     let b1 = b2 .before in

@@ -1,12 +1,12 @@
 -- The number, and what it says as a map.
 use borrow.Author.Needs.{needs}
-use Rattle.sheet_frame.specs.Map.{map}
+use Rattle.sheet_frame.specs.Map.{sheet-map}
 use Rattle.sheet_fields.proofs.Reading.{goes-on}
 use Rattle.sheet_frame.proofs.map.read_map.Statement.{statement}
 use Rattle.sheet_frame.proofs.map.read_map.Tie as tie
 
 returns : tie.Need-returns
-unfolding map
+unfolding sheet-map
 returns c =
     let n = c .before .before in
     goes-on _ (n .read-number .ensures .0) (c .judge-map .ensures _)
