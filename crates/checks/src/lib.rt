@@ -11,7 +11,7 @@ ghost use Rattle.octets.specs.Numbers.{total};
 ghost use Rattle.panel.specs.Refusal.{bad-side, bad-grid, differ, bad-counts};
 
 // Whether rows or columns are too few or too many.
-pub fn bad_side(n: u32) -> bool
+fn bad_side(n: u32) -> bool
     ensures { λ r. ⌜ r ≡ bad-side n ⌝ }
 {
     n < 1 || 256 < n
@@ -25,7 +25,7 @@ pub fn bad_grid(rows: u32, cols: u32) -> bool
 }
 
 // How many tiles a grid has.
-pub fn tile_count(rows: u32, cols: u32) -> u64
+fn tile_count(rows: u32, cols: u32) -> u64
     ensures { λ r. ⌜ r ≡ rows * cols ⌝ }
 {
     (rows as u64) * (cols as u64)
@@ -40,7 +40,7 @@ pub fn bad_counts(rows: u32, cols: u32, colors: u64, alphas: u64) -> bool
 }
 
 // Whether lengths sum to a number. It compares as it adds, so that no sum wraps.
-pub fn sums_to(lengths: &[u32], sum: u64) -> bool
+fn sums_to(lengths: &[u32], sum: u64) -> bool
     ensures { λ r. ⌜ r ≡ eqb (total (now (lengths .entry))) sum ⌝ }
 {
     let mut s: u64 = 0;

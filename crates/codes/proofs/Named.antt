@@ -1,7 +1,7 @@
 -- Each enum by its codes: every value is found by its code, so what names a code is what the look-up gives.
 use mathlib.Core.Path.{_≡_, refl}
 use mathlib.Core.Bool.{Bool, true, false}
-use mathlib.Core.Option.{Option, none, some}
+use mathlib.Core.Option.{none, some}
 use Prim.Native.Nat.{ℕ}
 use Rattle.panel.specs.declared.fmt.BitDepth.{BitDepth}
 use Rattle.panel.specs.declared.fmt.BitDepth.the-variants.{Eight, Ten, Twelve}

@@ -120,7 +120,7 @@ impl MaybeBool {
 }
 
 // Whether this code says yes, or none where it says neither yes nor no.
-pub fn yes_no(code: u16) -> MaybeBool
+fn yes_no(code: u16) -> MaybeBool
     ensures { λ r. ⌜ maybe-bool r ≡ yes-no code ⌝ }
 {
     match code {

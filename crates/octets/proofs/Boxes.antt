@@ -17,7 +17,7 @@ use Rattle.octets.proofs.Numbers.{cancel-be}
 
 -- ---- lengths, and how the bytes come apart
 
-pub boxes-nil : boxes [] ≡ []
+boxes-nil : boxes [] ≡ []
 unfolding boxes
 boxes-nil = refl
 

@@ -14,7 +14,7 @@ length-be zero n = refl
 length-be (suc k) n = ap suc (length-be k n)
 
 -- k bytes say the number modulo 2 to the 8 k
-pub be-mod-inj : (k n m : ℕ) → be k n ≡ be k m → n % 2 ^ (8 * k) ≡ m % 2 ^ (8 * k)
+be-mod-inj : (k n m : ℕ) → be k n ≡ be k m → n % 2 ^ (8 * k) ≡ m % 2 ^ (8 * k)
 be-mod-inj zero n m e = omega arith
 be-mod-inj (suc k) n m e =
     let h : n / 2 ^ (8 * k) % 256 ≡ m / 2 ^ (8 * k) % 256 = cc in

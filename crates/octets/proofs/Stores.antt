@@ -16,13 +16,9 @@ use Rattle.octets.proofs.Numbers.{be-append}
 
 -- ---- runs of stores
 
-pub sets-append : (l : List ℕ) (i : ℕ) (xs ys : List ℕ) → sets (sets l i xs) (i + length xs) ys ≡ sets l i (xs ++ ys)
+sets-append : (l : List ℕ) (i : ℕ) (xs ys : List ℕ) → sets (sets l i xs) (i + length xs) ys ≡ sets l i (xs ++ ys)
 sets-append l i [] ys = ap (λ (k : ℕ). sets l k ys) (add-zero i)
 sets-append l i (x ∷ xs) ys = ap (λ (k : ℕ). sets (sets l i (x ∷ xs)) k ys) (add-suc i (length xs) ∙ sym (suc-add i (length xs))) ∙ sets-append _ (suc i) xs ys
-
-pub lay-append : (l : List ℕ) (i : ℕ) (xs ys : List ℕ) → lay l i (xs ++ ys) ≡ lay (lay l i xs) (i + length xs) ys
-unfolding lay
-lay-append l i xs ys = sym (sets-append l i xs ys)
 
 pub length-lay : (l : List ℕ) (i : ℕ) (xs : List ℕ) → length (lay l i xs) ≡ length l
 unfolding lay

@@ -2,7 +2,7 @@
 -- One computed look-up of each value in the list of all gives all three.
 use mathlib.Core.Path.{_≡_, refl, sym, ap, _∙_}
 use mathlib.Core.Bool.{Bool, true, false, _&&_, cond}
-use mathlib.Core.Option.{Option, none, some}
+use mathlib.Core.Option.{none, some}
 use mathlib.Core.List.{List, [], _∷_}
 use Prim.Native.Nat.{ℕ, _*_, _^_, _<_}
 use native.Mathlib.Omega.{arith}
@@ -71,7 +71,7 @@ module _ {A : Type 0} (code : A → ℕ) where
 
 -- ---- Primaries
 
-pub primaries-found : (a : Primaries) → primaries-named (primaries-code a) ≡ some a
+primaries-found : (a : Primaries) → primaries-named (primaries-code a) ≡ some a
 primaries-found P.Reserved = refl
 primaries-found P.Bt709 = refl
 primaries-found P.Unspecified = refl
@@ -97,7 +97,7 @@ primaries-misses = misses primaries-code every-primaries
 
 -- ---- TransferFunction
 
-pub transfer-found : (a : TransferFunction) → transfer-named (transfer-code a) ≡ some a
+transfer-found : (a : TransferFunction) → transfer-named (transfer-code a) ≡ some a
 transfer-found T.Reserved = refl
 transfer-found T.Bt709 = refl
 transfer-found T.Unspecified = refl
@@ -128,7 +128,7 @@ transfer-misses = misses transfer-code every-transfer
 
 -- ---- MatrixCoefficients
 
-pub matrix-found : (a : MatrixCoefficients) → matrix-named (matrix-code a) ≡ some a
+matrix-found : (a : MatrixCoefficients) → matrix-named (matrix-code a) ≡ some a
 matrix-found M.Identity = refl
 matrix-found M.Bt709 = refl
 matrix-found M.Unspecified = refl

@@ -28,7 +28,7 @@ use Rattle.panel.proofs.Codes.{code-inj, primaries-inj, transfer-inj, m
 pub some-inj : {x y : List ℕ} → some x ≡ some y → x ≡ y
 some-inj e = cc
 
-pub none-some : {x : List ℕ} → none ≡ some x → ⊥
+none-some : {x : List ℕ} → none ≡ some x → ⊥
 none-some e = let z : _≡_ {A = ℕ} 0 1 = cc in omega arith
 
 -- ---- colour

@@ -71,7 +71,7 @@ tone-kept : (g : Option Gain) → has (tone-of g) ≡ has (tone-of (norm-gain g)
 tone-kept none = refl
 tone-kept (some g) = refl
 
-pub shape-norm : (p : Panel) → shape p ≡ shape (norm p)
+shape-norm : (p : Panel) → shape p ≡ shape (norm p)
 unfolding norm
 shape-norm p =
     let g = gain-kept (p .gain) in

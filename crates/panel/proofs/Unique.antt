@@ -147,7 +147,7 @@ module _ (f : Form) where
         }
 
 -- panels that agree have the same file, accepted or not
-pub agreeing : (f : Form) (p q : Panel) → Agree p q → file f p ≡ file f q
+agreeing : (f : Form) (p q : Panel) → Agree p q → file f p ≡ file f q
 agreeing f p q h = file-norm f p ∙ ap (file f) (h .same) ∙ sym (file-norm f q)
 
 -- demand 3, in every form

@@ -1,5 +1,4 @@
 -- The code's enums as numbers: depths, code points, orientations.
-use mathlib.Core.Path.{_≡_}
 use mathlib.Core.Bool.{Bool, true, false}
 use mathlib.Core.Option.{Option, none, some}
 use Prim.Native.Nat.{ℕ}

@@ -33,7 +33,7 @@ pub struct AlternateRead {
 }
 
 // A colour: code points and a profile, each if its bit stands.
-pub fn read_color(sheet: &[u8], c: Cursor, cicp: bool, icc: bool) -> ColorRead
+pub(crate) fn read_color(sheet: &[u8], c: Cursor, cicp: bool, icc: bool) -> ColorRead
     ensures { λ r. ⌜ Reads (now (sheet .entry)) c (colour cicp icc) (colour-of (r .color) (span-of (now (sheet .entry)) (r .icc))) (r .next) ⌝ }
 {
     let a = read_cicp(sheet, c);
@@ -80,7 +80,7 @@ fn alternate_of(cicp: MaybeCicp, icc: Part) -> MaybeColorMetadata
 }
 
 // The alternate colour of a tone map.
-pub fn read_alternate(sheet: &[u8], c: Cursor, m: Map) -> AlternateRead
+pub(crate) fn read_alternate(sheet: &[u8], c: Cursor, m: Map) -> AlternateRead
     ensures { λ r. ⌜ Reads (now (sheet .entry)) c (alternate m) (alternate-of (r .color) (span-of (now (sheet .entry)) (r .icc))) (r .next) ⌝ }
 {
     let x = read_color(sheet, c, m.alternate_cicp, m.alternate_icc);

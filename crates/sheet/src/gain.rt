@@ -77,7 +77,7 @@ fn read_image(sheet: &[u8], c: Cursor) -> ImageRead
 }
 
 // The gain map, if its bit stands, with its tone map and its alternate colour if theirs do.
-pub fn read_gain(sheet: &[u8], c: Cursor, m: Map) -> GainRead
+pub(crate) fn read_gain(sheet: &[u8], c: Cursor, m: Map) -> GainRead
     ensures { λ r. ⌜ Reads (now (sheet .entry)) c (optional (m .«gain_map») (gain m)) (maybe-gain-said (now (sheet .entry)) (r .spans) (r .gain)) (r .next) ⌝ }
 {
     let i = read_image(sheet, c);

@@ -77,7 +77,7 @@ fn read_light(sheet: &[u8], c: Cursor, stands: bool) -> LightRead
 }
 
 // Orientation, light level and Exif, each if its bit stands.
-pub fn read_metadata(sheet: &[u8], c: Cursor, m: Map) -> MetadataRead
+pub(crate) fn read_metadata(sheet: &[u8], c: Cursor, m: Map) -> MetadataRead
     ensures { λ r. ⌜ Reads (now (sheet .entry)) c (metadata m) (metadata-of (now (sheet .entry)) r) (r .next) ⌝ }
 {
     let o = read_oriented(sheet, c, m.orientation);

@@ -27,7 +27,7 @@ pub struct PicturesRead {
 }
 
 // Both records, n lengths for each picture, and bytes for the sum of the lengths.
-pub fn read_pictures(
+pub(crate) fn read_pictures(
     sheet: &[u8],
     c: Cursor,
     n: u32,

@@ -7,7 +7,7 @@ use Prim.Native.Nat.{ℕ, _*_, _^_, _≤_, _<_}
 use native.Mathlib.Omega.{arith}
 use borrow.Author.Tests.{le-ltb}
 use lib.ListN.{length, length-append}
-use Rattle.octets.specs.Numbers.{be, total}
+use Rattle.octets.specs.Numbers.{total}
 use Rattle.panel.specs.Panel.{Colour, Gain, Panel}
 use Rattle.panel.specs.Items.{has, tone-of}
 use Rattle.panel.specs.Agreement.{shown, filled}
@@ -26,7 +26,7 @@ use Rattle.sheet_bytes.proofs.Codes.{off-depth, off-orientation, turned
 use Rattle.sheet_bytes.proofs.Maps.{off-map}
 
 -- P of what is present, from P of everything
-pub of-all : {A : Type 0} {P : A → Type 0} → ((a : A) → P a) → (o : Option A) → Of P o
+of-all : {A : Type 0} {P : A → Type 0} → ((a : A) → P a) → (o : Option A) → Of P o
 of-all h none = tt
 of-all h (some a) = h a
 

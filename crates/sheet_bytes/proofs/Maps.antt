@@ -37,7 +37,7 @@ module _ (m : Map) where
   bits-small : bits-of m ≤ 511
   bits-small = omega (arith, weight-small (m .cicp), weight-small (m .icc), weight-small (m .orientation), weight-small (m .«light_level»), weight-small (m .exif), weight-small (m .«gain_map»), weight-small (m .tmap), weight-small (m .«alternate_cicp»), weight-small (m .«alternate_icc»))
 
-  pub map-back : map-of (bits-of m) ≡ m
+  map-back : map-of (bits-of m) ≡ m
   unfolding map-of
   map-back =
       let e0 : bits-of m / 2 ^ 0 % 2 ≡ weight (m .cicp) = digit 0 (weight (m .cicp)) (weight (m .icc) + 2 * weight (m .orientation) + 4 * weight (m .«light_level») + 8 * weight (m .exif) + 16 * weight (m .«gain_map») + 32 * weight (m .tmap) + 64 * weight (m .«alternate_cicp») + 128 * weight (m .«alternate_icc»)) (0) (bits-of m) (omega (arith, weight-small (m .cicp), weight-small (m .icc), weight-small (m .orientation), weight-small (m .«light_level»), weight-small (m .exif), weight-small (m .«gain_map»), weight-small (m .tmap), weight-small (m .«alternate_cicp»), weight-small (m .«alternate_icc»))) (weight-small (m .cicp)) (omega arith) in

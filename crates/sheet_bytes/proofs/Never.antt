@@ -184,7 +184,7 @@ module _ (s rest : List ℕ) (p : Panel) (e : sheet s ≡ got p rest) where
       go false h e = a-panel .yields s rest p (ltb-false 12288 (length s) h) e .0
 
   -- the panel that a sheet says is refused by 1, by 6, or not at all
-  pub said-only : (room : ℕ) → refusal-in ordinary room p ≡ cond (bad-grid (p .dims .rows) (p .dims .cols)) 1 (cond (ltb room (length (file ordinary p))) 6 0)
+  said-only : (room : ℕ) → refusal-in ordinary room p ≡ cond (bad-grid (p .dims .rows) (p .dims .cols)) 1 (cond (ltb room (length (file ordinary p))) 6 0)
   said-only = only p held
 
 stops-late : (s : List ℕ) (k : ℕ) → sheet s ≡ stop k → 11 ≤ k

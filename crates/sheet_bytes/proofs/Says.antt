@@ -3,7 +3,7 @@ use mathlib.Core.Path.{_≡_, refl, sym, ap, _∙_}
 use mathlib.Core.Bool.{cond}
 use mathlib.Core.Option.{Option, none, some}
 use mathlib.Core.List.{List, [], _∷_, _++_, flatMap, append-assoc, append-nil}
-use Prim.Native.Nat.{ℕ, zero, suc, _+_, _*_, _^_, _%_, _≤_, _<_}
+use Prim.Native.Nat.{ℕ, _*_, _^_, _≤_, _<_}
 use native.Mathlib.Omega.{arith}
 use borrow.Author.Tests.{le-ltb}
 use lib.ListN.{length, take, drop, length-append}
@@ -42,7 +42,7 @@ module _ {A B : Type 0} {f : Reader A} {x : List ℕ} {a : A} where
 pub as-well : {A : Type 0} {f : Reader A} {x : List ℕ} {a b : A} → a ≡ b → Says f x a → Says f x b
 as-well e h = rw e at h
 
-pub off-none : {A : Type 0} {a : A} → Says (give a) [] a
+off-none : {A : Type 0} {a : A} → Says (give a) [] a
 off-none = record { says = λ l rest. refl }
 
 -- ---- bytes and numbers
@@ -56,7 +56,7 @@ off-bytes n x e = record {
       ∙ (λ i. got (take-at x rest n e i) (drop-at x rest n e i));
 }
 
-pub off-be : (k n : ℕ) → Says (number k) (be k n) (value (be k n))
+off-be : (k n : ℕ) → Says (number k) (be k n) (value (be k n))
 unfolding number
 off-be k n = closes _ (off-bytes k (be k n) (length-be k n)) refl
 

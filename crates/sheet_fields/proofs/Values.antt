@@ -13,7 +13,7 @@ use Rattle.octets.proofs.Lists.{total-append}
 use Rattle.sheet_fields.specs.Fields.{words}
 
 -- one byte more
-pub value-snoc : (x : List ℕ) (b : ℕ) → value (x ++ (b ∷ [])) ≡ value x * 256 + b
+value-snoc : (x : List ℕ) (b : ℕ) → value (x ++ (b ∷ [])) ≡ value x * 256 + b
 value-snoc [] b = omega arith
 value-snoc (a ∷ x) b =
     let l : 8 * length (x ++ (b ∷ [])) ≡ 8 * length x + 8 = omega (arith, length-append x (b ∷ [])) in
@@ -37,7 +37,7 @@ within {v} {i} {k} h l = let t : 8 * i ≤ 8 * k = omega arith in lt-of-lt-of-le
 
 -- ---- lists of lengths
 
-pub words-snoc : (n : ℕ) (x : List ℕ) → words (suc n) x ≡ words n x ++ (value (take 4 (drop (4 * n) x)) ∷ [])
+words-snoc : (n : ℕ) (x : List ℕ) → words (suc n) x ≡ words n x ++ (value (take 4 (drop (4 * n) x)) ∷ [])
 words-snoc zero x = refl
 words-snoc (suc n) x =
     let w : 4 + 4 * n ≡ 4 * suc n = omega arith in
@@ -45,7 +45,7 @@ words-snoc (suc n) x =
     ap (λ l. value (take 4 x) ∷ l) (words-snoc n (drop 4 x) ∙ ap (λ l. words n (drop 4 x) ++ (value (take 4 l) ∷ [])) e)
 
 -- one turn of the loop that puts them into a list
-pub words-next : (i : ℕ) (x : List ℕ) → words (i + 1) x ≡ words i x ++ (value (take 4 (drop (i * 4) x)) ∷ [])
+words-next : (i : ℕ) (x : List ℕ) → words (i + 1) x ≡ words i x ++ (value (take 4 (drop (i * 4) x)) ∷ [])
 words-next i x = rw (add-one, mul-comm i 4) (words-snoc i x)
 
 pub words-put : (i v : ℕ) (x out : List ℕ) → i < length out → v ≡ value (take 4 (drop (i * 4) x)) → take i out ≡ words i x → take (i + 1) (set out i v) ≡ words (i + 1) x
