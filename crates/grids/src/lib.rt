@@ -61,6 +61,7 @@ pub fn write_descriptor(out: &mut [u8], at: usize, d: GridDims) -> usize
 // The length of a grid's descriptor.
 pub fn descriptor_length(d: GridDims) -> u32
     ensures { λ r. ⌜ r ≡ descriptor-size d ⌝ }
+    ensures { λ r. ⌜ r ≤ 12 ⌝ }
 {
     if is_wide(d) {
         return 12;

@@ -152,7 +152,17 @@ pub fn plan_of(
     let color_rext = hvcc_uses_rext(color_hvcc);
     let gain_rext = gain_uses_rext(gain, gain_hvcc);
     let places = places_of(panel, shape);
-    let sizes = sizes_of(form, panel, shape, places, lengths, color_rext, gain_rext);
+    let descriptor = descriptor_length(dims);
+    let sizes = sizes_of(
+        form,
+        panel,
+        shape,
+        places,
+        lengths,
+        descriptor,
+        color_rext,
+        gain_rext,
+    );
     let length = file_size(sizes);
     if 4294967295 < length {
         return Plan::Refused(Refusal::FileLength);
@@ -160,7 +170,7 @@ pub fn plan_of(
     let layout = placed(
         sizes,
         shape,
-        descriptor_length(dims),
+        descriptor,
         color_samples.len(),
         alpha_samples.len(),
         color_rext,
