@@ -8,6 +8,7 @@ mod differences;
 mod fence;
 mod huge;
 mod memory;
+mod orders;
 mod panels;
 mod predict;
 mod random;
@@ -113,6 +114,8 @@ fn everything(options: &Options) -> Run {
     set("last ids", &mut run, sets::last_ids);
     set("refusals", &mut run, sets::refusals);
     set("lengths around 4 GiB", &mut run, huge::lengths);
+    let ordered = orders::run(&mut run);
+    println!("the order of the checks: {ordered} calls at which two hold");
     let parts = differences::run(&mut run);
     println!("where upstream parts from the specification: {parts} panels");
     let (codes, unnamed) = codes::run(&mut run);

@@ -8,39 +8,36 @@ use kahopiru::{EncodedGainMap, Orientation, Panel, Samples};
 pub type Answer = Result<u64, u32>;
 
 const MOST_BYTES: i128 = 4_294_967_295;
-const LAST_ID: u64 = 65_535;
+const LAST_ID: i128 = 65_535;
 
 /// What the writing call answers with so much room; the length call, with no room named.
 pub fn answer(panel: &Panel<'_>, room: Option<usize>) -> Answer {
-    let length = panel_answer(panel)?;
-    match room {
-        Some(room) if (room as u64) < length => Err(6),
-        _ => Ok(length),
+    match holding(panel, room).first() {
+        Some(&number) => Err(number),
+        None => Ok(length(panel) as u64),
     }
 }
 
-/// The checks of a panel, in the order of their numbers.
-fn panel_answer(panel: &Panel<'_>) -> Answer {
-    let (rows, cols) = (u64::from(panel.dims.rows), u64::from(panel.dims.cols));
-    let good_side = |side: u64| (1..=256).contains(&side);
-    if !good_side(rows) || !good_side(cols) {
-        return Err(1);
-    }
-    let tiles = rows * cols;
-    let counts = |s: Samples<'_>| s.lengths.len() as u64 == tiles;
-    if !counts(panel.color_samples) || !counts(panel.alpha_samples) {
-        return Err(2);
-    }
-    if !sums(panel.color_samples) || !sums(panel.alpha_samples) {
-        return Err(3);
-    }
-    if last_id(panel, tiles) > LAST_ID {
-        return Err(4);
-    }
-    match length(panel, tiles) {
-        length if length > MOST_BYTES => Err(5),
-        length => Ok(length as u64),
-    }
+/// The checks that hold for a panel, in the order in which they are made: the first is answered.
+pub fn holding(panel: &Panel<'_>, room: Option<usize>) -> Vec<u32> {
+    let (rows, cols) = (i128::from(panel.dims.rows), i128::from(panel.dims.cols));
+    let good_side = |side: i128| (1..=256).contains(&side);
+    let counts = |s: Samples<'_>| s.lengths.len() as i128 == tiles(panel);
+    let length = length(panel);
+    let checks = [
+        (1, !good_side(rows) || !good_side(cols)),
+        (2, !counts(panel.color_samples) || !counts(panel.alpha_samples)),
+        (3, !sums(panel.color_samples) || !sums(panel.alpha_samples)),
+        (4, last_id(panel) > LAST_ID),
+        (5, length > MOST_BYTES),
+        (6, room.is_some_and(|room| (room as i128) < length)),
+    ];
+    checks.into_iter().filter(|&(_, holds)| holds).map(|(number, _)| number).collect()
+}
+
+/// How many tiles each picture has.
+fn tiles(panel: &Panel<'_>) -> i128 {
+    i128::from(panel.dims.rows) * i128::from(panel.dims.cols)
 }
 
 /// Whether lengths sum to the bytes lent.
@@ -49,9 +46,10 @@ fn sums(s: Samples<'_>) -> bool {
 }
 
 /// The last item id: both tile lists and both grids, then Exif, gain image, XMP, tone map.
-fn last_id(panel: &Panel<'_>, tiles: u64) -> u64 {
+fn last_id(panel: &Panel<'_>) -> i128 {
+    let one_if = |present: bool| i128::from(present);
     let tone = panel.gain_map.is_some_and(|g| g.tmap.is_some());
-    2 * tiles + 2 + u64::from(panel.metadata.exif.is_some()) + 2 * u64::from(panel.gain_map.is_some()) + u64::from(tone)
+    2 * tiles(panel) + 2 + one_if(panel.metadata.exif.is_some()) + 2 * one_if(panel.gain_map.is_some()) + one_if(tone)
 }
 
 fn bytes(part: &[u8]) -> i128 {
@@ -70,9 +68,9 @@ fn transforms(orientation: Orientation) -> i128 {
 }
 
 /// The file's length: the bare file's, and the share of each thing that is more.
-fn length(panel: &Panel<'_>, tiles: u64) -> i128 {
+fn length(panel: &Panel<'_>) -> i128 {
     let bare = 461
-        + 89 * i128::from(tiles)
+        + 89 * tiles(panel)
         + bytes(panel.color_hvcc)
         + bytes(panel.alpha_hvcc)
         + bytes(panel.color_samples.bytes)

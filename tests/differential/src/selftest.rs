@@ -1,13 +1,15 @@
-//! The comparison itself, put to the test: each kind of difference, made on purpose, must be reported.
+//! The comparison itself, put to the test: each kind of difference, made on purpose, must be reported; and so must a
+//! prediction that makes two checks in the other order.
 
 use crate::compare::{judge, same_answer, same_file, Room};
+use crate::orders;
 use crate::panels::full;
 
 /// A difference that is made on purpose, and whether the comparison reported it.
 type Trial = (&'static str, Result<(), String>);
 
 /// Answers the differences that went unnoticed, and how many were made.
-pub fn run() -> (Vec<&'static str>, usize) {
+pub fn run() -> (Vec<String>, usize) {
     let case = full();
     let file = kahopiru::to_vec(&case.panel()).expect("the full panel is accepted");
     let good = Ok(file.len() as u64);
@@ -38,11 +40,13 @@ pub fn run() -> (Vec<&'static str>, usize) {
         ("a wrong length alone", same_answer(Ok(556), Ok(557))),
         ("a shorter file", same_file(&file, &file[1..])),
     ];
-    let made = trials.len();
-    let mut unnoticed: Vec<_> = trials.into_iter().filter(|(_, seen)| seen.is_ok()).map(|(name, _)| name).collect();
+    let mut seen: Vec<(String, bool)> = trials.into_iter().map(|(name, seen)| (name.into(), seen.is_err())).collect();
+    seen.extend(orders::exchanges());
+    let made = seen.len();
+    let mut unnoticed: Vec<_> = seen.into_iter().filter(|(_, reported)| !reported).map(|(name, _)| name).collect();
     // And what is right must pass, or the comparison reports everything.
     if judge(good, &file, good, &untouched).is_err() || judge(Err(6), &file, Err(6), &unwritten).is_err() {
-        unnoticed.push("nothing (a right answer is reported)");
+        unnoticed.push("nothing (a right answer is reported)".into());
     }
     (unnoticed, made)
 }

@@ -19,7 +19,7 @@ const DAMAGED: u64 = 10_000;
 /// How many sheets the program is given.
 const PROGRAM: usize = 200;
 /// The room that the program has.
-const ROOM: usize = 32_768;
+pub const ROOM: usize = 32_768;
 
 /// What has been compared.
 pub struct Seen {
@@ -30,15 +30,21 @@ pub struct Seen {
     pub program: Option<usize>,
 }
 
+/// What a sheet is refused with where there is so much room, in the order of reading and then of the panel's checks; and
+/// the panel that it says.
+pub fn holding(sheet: &[u8], room: usize) -> (Vec<u32>, Case) {
+    let (mut met, case) = reader::read(sheet);
+    met.extend(predict::holding(&case.panel(), Some(room)));
+    (met, case)
+}
+
 /// What a sheet must be answered with so much room, and the file, if there is one.
 fn expected(sheet: &[u8], room: usize) -> (Answer, Vec<u8>) {
-    let case = match reader::read(sheet) {
-        Ok(case) => case,
-        Err(number) => return (Err(number), Vec::new()),
-    };
-    let answer = predict::answer(&case.panel(), Some(room));
-    let file = if answer.is_ok() { upstream::write(&case).unwrap_or_default() } else { Vec::new() };
-    (answer, file)
+    let (refusals, case) = holding(sheet, room);
+    match refusals.first() {
+        Some(&number) => (Err(number), Vec::new()),
+        None => (predict::answer(&case.panel(), Some(room)), upstream::write(&case).unwrap_or_default()),
+    }
 }
 
 fn one(sheet: &[u8], size: usize, room: &mut Room) -> Result<Answer, String> {

@@ -12,24 +12,28 @@ const LISTS: u64 = 1_000;
 /// How many of them are also looked up in upstream's file.
 const FILES: u64 = 200;
 /// The most tiles that have ids: 2n + 2 is at most 65,535.
-const MOST_TILES: usize = 32_766;
+pub const MOST_TILES: usize = 32_766;
+
+/// The checks of the lookup that hold for an id, in the order in which they are made: the first is answered.
+pub fn holding(id: u16, color: Samples<'_>, alpha: Samples<'_>) -> Vec<u32> {
+    let n = color.lengths.len();
+    let sums = |s: Samples<'_>| s.lengths.iter().map(|&l| u64::from(l)).sum::<u64>() == s.bytes.len() as u64;
+    let id = usize::from(id);
+    let checks = [
+        (2, n != alpha.lengths.len() || n == 0),
+        (3, !sums(color) || !sums(alpha)),
+        (4, n > MOST_TILES),
+        (7, !(1..=n).contains(&id) && !(n + 2..=2 * n + 1).contains(&id)),
+    ];
+    checks.into_iter().filter(|&(_, holds)| holds).map(|(number, _)| number).collect()
+}
 
 /// What the lookup must give for an id: the bytes, or the number of the refusal.
-fn expected<'a>(id: u16, color: Samples<'a>, alpha: Samples<'a>) -> Result<&'a [u8], u32> {
-    let n = color.lengths.len();
-    if n != alpha.lengths.len() || n == 0 {
-        return Err(2);
+pub fn expected<'a>(id: u16, color: Samples<'a>, alpha: Samples<'a>) -> Result<&'a [u8], u32> {
+    if let Some(&number) = holding(id, color, alpha).first() {
+        return Err(number);
     }
-    let sum = |s: Samples<'_>| s.lengths.iter().map(|&l| u64::from(l)).sum::<u64>();
-    if sum(color) != color.bytes.len() as u64 || sum(alpha) != alpha.bytes.len() as u64 {
-        return Err(3);
-    }
-    if n > MOST_TILES {
-        return Err(4);
-    }
-    let mut owners = vec![(1, color)];
-    owners.push((n + 2, alpha));
-    for (first, samples) in owners {
+    for (first, samples) in [(1, color), (color.lengths.len() + 2, alpha)] {
         let mut rest = samples.bytes;
         for (k, &length) in samples.lengths.iter().enumerate() {
             let (own, behind) = rest.split_at(length as usize);
@@ -39,7 +43,7 @@ fn expected<'a>(id: u16, color: Samples<'a>, alpha: Samples<'a>) -> Result<&'a [
             rest = behind;
         }
     }
-    Err(7)
+    unreachable!("an id that is not refused names a tile")
 }
 
 /// Whether a slice is that very part, and not only equal bytes.
