@@ -98,6 +98,12 @@ module _ (file : List ℕ) (e : ℕ) (l : Location) (b : Begins (entry ordinary 
   its-id : l .id < 2 ^ 16 → read 2 e file ≡ l .id
   its-id h = ap (λ (y : List ℕ). value (take 2 y)) (b .is) ∙ value-be 2 (l .id) h
 
+  its-method : l .method < 2 ^ 16 → read 2 (e + 2) file ≡ l .method
+  its-method h = ap value (part 2 2) ∙ value-be 2 (l .method) h
+
+  its-extents : read 2 (e + 6) file ≡ 1
+  its-extents = ap value (part 6 2)
+
   its-offset : l .extent .offset < 2 ^ 32 → read 4 (e + 8) file ≡ l .extent .offset
   its-offset h = ap value (part 8 4) ∙ value-be 4 (l .extent .offset) h
 
@@ -151,6 +157,8 @@ module _ (p : Panel) (a : Accepted ordinary p) where
         let z = its-size f (entry-at p j) its b (omega (arith, fits)) in
         record {
           its-id = its-id f (entry-at p j) its b (omega (arith, e)) ∙ e;
+          its-method = its-method f (entry-at p j) its b (omega arith);
+          its-extents = its-extents f (entry-at p j) its b;
           its-bytes = sym (holds) ∙ (λ i. take (sym z i) (drop (sym o i) f));
         }
 

@@ -22,7 +22,9 @@ read k i bytes = value (take k (drop i bytes))
 unfoldable pub entry-at : Panel → ℕ → ℕ
 entry-at p id = length (boxes (head p ∷ [])) + (12 + (length (boxes (hdlr ∷ pitm ordinary (shape p) ∷ [])) + (16 + 16 * (id - 1))))
 
--- x is what iloc's entry of an item says: the entry at its place has its id, and the bytes of the file from the entry's offset on, as many as its length, are x
+-- x is what iloc's entry of an item says: the entry at its place has its id; its construction method, in the last 4 of 16 bits whose others are reserved, is 0, so that offsets are the file's own; it has one extent; and the bytes of the file from the extent's offset on, as many as its length, are x
 pub record Locates (p : Panel) (id : ℕ) (x : List ℕ) : Type 0 where
   pub its-id : read 2 (entry-at p id) (file ordinary p) ≡ id
+  pub its-method : read 2 (entry-at p id + 2) (file ordinary p) ≡ 0
+  pub its-extents : read 2 (entry-at p id + 6) (file ordinary p) ≡ 1
   pub its-bytes : x ≡ take (read 4 (entry-at p id + 12) (file ordinary p)) (drop (read 4 (entry-at p id + 8) (file ordinary p)) (file ordinary p))
