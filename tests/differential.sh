@@ -25,8 +25,14 @@ program=../../target/cargo/release/differential
 "$program" "$@" | tee "$log"
 grep -qE '^panel_sheet: [1-9][0-9]* of them through the program$' "$log" ||
     left_out oracle "the comparison of the program: no sheet went through target/bin/panel_sheet"
-"$program" vectors | cmp - ../vectors/upstream.txt || {
-    echo "differential: tests/vectors/upstream.txt is not what upstream writes; '$program vectors' prints it" >&2
-    exit 1
+
+# holds WORD FILE: what upstream writes, as `differential WORD` prints it, is what FILE has
+holds() {
+    "$program" "$1" | cmp - "../../$2" || {
+        echo "differential: $2 is not what upstream writes; '$program $1' prints it" >&2
+        exit 1
+    }
+    echo "differential: $2 holds what upstream writes"
 }
-echo "differential: tests/vectors/upstream.txt holds what upstream writes"
+holds vectors tests/vectors/upstream.txt
+holds stored crates/stored_files/stdout

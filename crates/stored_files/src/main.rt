@@ -1,5 +1,11 @@
-// Writes the files of two panels to standard output, each followed by the four bytes of the output that lie behind it: panel P of the
-// specification, and a panel with every part. The file `stdout` beside src/ has what the Rust wrote for both.
+// Writes files to standard output, each with the bytes of the output behind it that it leaves as they are: panel P with each value of each
+// enum, and a panel with every part. Then it prints what the tile lookup gives for ids. The file `stdout` beside src/ has what the Rust
+// writes for values of the same names, and which part of its files each tile is.
+mod lookups;
+mod names;
+
+use crate::lookups::print_lookups;
+use crate::names::write_names;
 use panel::GridDims;
 use panel::Panel;
 use panel::color::Cicp;
@@ -18,31 +24,6 @@ use panel::metadata::MaybeLightLevel;
 use panel::metadata::Metadata;
 use panel::metadata::Orientation;
 use wrap::wrap_hevc_grid_with_alpha;
-
-// The numbers of panel P: one tile of 64 × 64, 8 bits, no option.
-fn bare() -> Panel {
-    Panel {
-        dims: GridDims {
-            cols: 1,
-            rows: 1,
-            tile_w: 64,
-            tile_h: 64,
-            full_w: 64,
-            full_h: 64,
-        },
-        bit_depth: BitDepth::Eight,
-        color_meta: ColorMetadata {
-            cicp: MaybeCicp::None,
-            icc: Part::Absent,
-        },
-        metadata: Metadata {
-            orientation: Orientation::Normal,
-            content_light_level: MaybeLightLevel::None,
-            exif: Part::Absent,
-        },
-        gain_map: MaybeGainMap::None,
-    }
-}
 
 // The colour of the picture and of its alternate, by code points and by a profile.
 fn wide() -> ColorMetadata {
@@ -99,29 +80,6 @@ fn full() -> Panel {
     }
 }
 
-fn write_bare() {
-    let mut out = [0xEEu8; 560];
-    let absent = [0u8; 0];
-    wrap_hevc_grid_with_alpha(
-        bare(),
-        &[1, 1],
-        &[1, 4],
-        &[1],
-        &[1],
-        &[0xAA],
-        &[0xBB],
-        &absent,
-        &absent,
-        &absent,
-        &absent,
-        &absent,
-        &absent,
-        &absent,
-        &mut out,
-    );
-    io::write_all(1, &out);
-}
-
 fn write_full() {
     let mut out = [0xEEu8; 1186];
     wrap_hevc_grid_with_alpha(
@@ -145,6 +103,7 @@ fn write_full() {
 }
 
 fn main() {
-    write_bare();
+    write_names();
     write_full();
+    print_lookups();
 }

@@ -19,6 +19,7 @@ mod selftest;
 mod sets;
 mod sheet;
 mod sheets;
+mod stored;
 mod tiles;
 mod trials;
 mod upstream;
@@ -27,26 +28,32 @@ mod vectors;
 use coverage::Coverage;
 use random::Rng;
 use run::Run;
+use std::io::Write;
 use std::process::ExitCode;
 use std::time::Instant;
 
 const HELP: &str = "usage: differential [--seed N] [--long] [--huge]
        differential vectors
+       differential stored
 
   --seed N   draw other random panels (the seed is printed with each run)
   --long     draw 1,000,000 random panels instead of 100,000
   --huge     also write a file of 4,294,967,295 bytes (takes about 13 GiB of memory)
-  vectors    print a fixed list of upstream's files: name, sheet and file in hexadecimal";
+  vectors    print a fixed list of upstream's files: name, sheet and file in hexadecimal
+  stored     print what the program crate stored_files must write, from upstream's files";
 
 struct Options {
     seed: u64,
     panels: u64,
     huge: bool,
-    vectors: bool,
+    print: Option<Print>,
 }
 
+/// Something to print from upstream's files, in place of the comparison.
+type Print = fn() -> Result<Vec<u8>, String>;
+
 fn options() -> Result<Options, String> {
-    let mut options = Options { seed: 1, panels: 100_000, huge: false, vectors: false };
+    let mut options = Options { seed: 1, panels: 100_000, huge: false, print: None };
     let mut words = std::env::args().skip(1);
     while let Some(word) = words.next() {
         match word.as_str() {
@@ -56,7 +63,8 @@ fn options() -> Result<Options, String> {
             }
             "--long" => options.panels = 1_000_000,
             "--huge" => options.huge = true,
-            "vectors" => options.vectors = true,
+            "vectors" => options.print = Some(|| vectors::text().map(String::into_bytes)),
+            "stored" => options.print = Some(stored::bytes),
             _ => return Err(format!("'{word}' is not known\n{HELP}")),
         }
     }
@@ -155,15 +163,15 @@ fn main() -> ExitCode {
             return ExitCode::from(2);
         }
     };
-    if options.vectors {
-        match vectors::text() {
-            Ok(text) => print!("{text}"),
+    if let Some(print) = options.print {
+        let printed = print().and_then(|bytes| std::io::stdout().write_all(&bytes).map_err(|e| e.to_string()));
+        return match printed {
+            Ok(()) => ExitCode::SUCCESS,
             Err(why) => {
                 eprintln!("differential: {why}");
-                return ExitCode::FAILURE;
+                ExitCode::FAILURE
             }
-        }
-        return ExitCode::SUCCESS;
+        };
     }
     let begun = Instant::now();
     println!("seed {}", options.seed);

@@ -67,7 +67,7 @@ fn one(id: u16, color: Samples<'_>, alpha: Samples<'_>) -> Result<(), String> {
 }
 
 /// The offset and the length that a file's iloc gives for an id. The first `iloc` is the box: what precedes it is fixed.
-fn located(file: &[u8], id: u16) -> Option<(usize, usize)> {
+pub fn located(file: &[u8], id: u16) -> Option<(usize, usize)> {
     let at = file.windows(4).position(|w| w == b"iloc")? + 4;
     let number = |from: usize, count: usize| file[from..from + count].iter().fold(0, |n, &b| n << 8 | usize::from(b));
     (0..number(at + 6, 2)).map(|k| at + 8 + 16 * k).find(|&e| number(e, 2) == usize::from(id)).map(|e| {

@@ -54,7 +54,7 @@ fn gain(g: &Gain) -> oracle::GainMap<'_> {
 }
 
 /// The samples one by one. The lengths must sum to the bytes.
-fn split<'a>(lengths: &[u32], bytes: &'a [u8]) -> Vec<&'a [u8]> {
+pub fn split<'a>(lengths: &[u32], bytes: &'a [u8]) -> Vec<&'a [u8]> {
     let mut rest = bytes;
     let mut samples = Vec::with_capacity(lengths.len());
     for &length in lengths {
