@@ -22,6 +22,7 @@ use boxes::ids::color_grid_id;
 use grid_lists::write_alpha_grid_list;
 use grid_lists::write_color_grid_list;
 use octets::w32;
+use octets::when;
 use panel::FileForm;
 use panel::Shape;
 use panel::WideItemId;
@@ -84,13 +85,20 @@ fn write_alpha_associations(
     write_alpha_grid_list(out, d, c, a, o)
 }
 
-// ipma, with so many entries.
+// How many items ipma names: the tiles, the grids, the gain image and the tone map.
+fn associated_items(s: Shape) -> u32
+    requires { ⌜ Shaped s ⌝ }
+    ensures { λ r. ⌜ r ≡ associated-items s ⌝ }
+{
+    2 * s.tiles + 2 + when(s.gain, 1) + when(s.tone, 1)
+}
+
+// ipma.
 pub fn write_ipma(
     out: &mut [u8],
     at: usize,
     form: FileForm,
     size: u32,
-    count: u32,
     s: Shape,
     y: Places,
 ) -> usize
@@ -98,7 +106,6 @@ pub fn write_ipma(
     requires { ⌜ Shaped s ⌝ }
     requires { ⌜ Fit y ⌝ }
     requires { ⌜ size ≡ ipma-bytes (form-of form) s y ⌝ }
-    requires { ⌜ count ≡ associated-items s ⌝ }
     ensures { λ r. ⌜ Boxed (now (out .entry)) at (ipma-bytes (form-of form) s y) (ipma (form-of form) (associations s (its-of y)) ∷ []) (now (out .exit)) r ⌝ }
 {
     let color = y.color;
@@ -109,7 +116,7 @@ pub fn write_ipma(
     let irot = options.irot;
     let imir = options.imir;
     let a = write_item_box(out, at, form, size, b"ipma", 0, 0);
-    let b = w32(out, a, count);
+    let b = w32(out, a, associated_items(s));
     let c = write_color_associations(out, b, form, s, color, options);
     let d = write_alpha_associations(out, c, form, s, color, alpha, options);
     gain_map::association::write_ipma(out, d, form, s, image, tone, irot, imir)

@@ -9,7 +9,6 @@ ghost use Rattle.octets.specs.Stores.{Boxed};
 ghost use Rattle.panel.specs.Forms.{form-of};
 ghost use Rattle.panel.specs.Of.{panel-of};
 ghost use Rattle.panel.specs.File.{idat};
-ghost use Rattle.length.specs.Properties.{associated-items};
 ghost use Rattle.grids.specs.Descriptors.{Sided};
 ghost use Rattle.isobmff.specs.Locations.{other-sizes, placed};
 ghost use Rattle.isobmff.specs.Parts.{lent-props};
@@ -25,7 +24,6 @@ use grids::write_descriptor;
 use ipma::write_ipma;
 use items::write_iinf;
 use items::write_iref;
-use locations::PayloadLengths;
 use octets::write_box;
 use octets::write_fullbox;
 use offsets::Layout;
@@ -52,8 +50,6 @@ fn write_item_boxes(
     at: usize,
     form: FileForm,
     y: Layout,
-    exif: u32,
-    gain: PayloadLengths,
     color_lengths: &[u32],
     alpha_lengths: &[u32],
 ) -> usize
@@ -63,8 +59,8 @@ fn write_item_boxes(
     requires { ⌜ length (now «alpha_lengths») ≡ y .shape .tiles ⌝ }
     requires { ⌜ y .«color_data» + total (now «color_lengths») < 4294967296 ⌝ }
     requires { ⌜ y .«alpha_data» + total (now «alpha_lengths») < 4294967296 ⌝ }
-    requires { ⌜ y .«other_data» + (exif + (gain .sample + gain .xmp)) < 4294967296 ⌝ }
-    ensures { λ r. ⌜ Boxed (now (out .entry)) at (item-boxes-size (form-of form) (y .shape)) (item-boxes (form-of form) (y .shape) (placed (y .shape) (y .descriptor) (y .«color_data») (y .«alpha_data») (y .«other_data») (now («color_lengths» .entry)) (now («alpha_lengths» .entry)) (other-sizes (y .shape) exif gain))) (now (out .exit)) r ⌝ }
+    requires { ⌜ y .«other_data» + (y .exif + (y .gain .sample + y .gain .xmp)) < 4294967296 ⌝ }
+    ensures { λ r. ⌜ Boxed (now (out .entry)) at (item-boxes-size (form-of form) (y .shape)) (item-boxes (form-of form) (y .shape) (placed (y .shape) (y .descriptor) (y .«color_data») (y .«alpha_data») (y .«other_data») (now («color_lengths» .entry)) (now («alpha_lengths» .entry)) (other-sizes (y .shape) (y .exif) (y .gain)))) (now (out .exit)) r ⌝ }
 {
     let s = y.shape;
     let offsets = Offsets {
@@ -72,6 +68,7 @@ fn write_item_boxes(
         alpha: y.alpha_data,
         other: y.other_data,
     };
+    let gain = y.gain;
     let grid = color_grid_id(s);
     let a = write_hdlr(out, at);
     let b = write_pitm(out, a, form, grid);
@@ -83,7 +80,7 @@ fn write_item_boxes(
         s,
         y.descriptor,
         offsets,
-        exif,
+        y.exif,
         gain,
         color_lengths,
         alpha_lengths,
@@ -92,13 +89,12 @@ fn write_item_boxes(
     write_iref(out, d, form, y.iref, s)
 }
 
-// iprp: ipco and ipma, which has so many entries.
+// iprp: ipco and ipma.
 fn write_iprp(
     out: &mut [u8],
     at: usize,
     form: FileForm,
     y: Layout,
-    count: u32,
     z: Places,
     panel: Panel,
     color_hvcc: &[u8],
@@ -111,7 +107,6 @@ fn write_iprp(
     requires { ⌜ Item-sizes (form-of form) y ⌝ }
     requires { ⌜ Property-sizes (form-of form) (panel-of panel (lent-props (now «color_hvcc») (now «alpha_hvcc») (now icc) (now «gain_hvcc») (now «alternate_icc»))) y z (panel .dims) ⌝ }
     requires { ⌜ Fit z ⌝ }
-    requires { ⌜ count ≡ associated-items (y .shape) ⌝ }
     ensures { λ r. ⌜ Boxed (now (out .entry)) at (iprp-bytes (form-of form) (panel-of panel (lent-props (now («color_hvcc» .entry)) (now («alpha_hvcc» .entry)) (now (icc .entry)) (now («gain_hvcc» .entry)) (now («alternate_icc» .entry)))) (y .shape) z) (iprp-of (form-of form) (panel-of panel (lent-props (now («color_hvcc» .entry)) (now («alpha_hvcc» .entry)) (now (icc .entry)) (now («gain_hvcc» .entry)) (now («alternate_icc» .entry)))) (y .shape) z ∷ []) (now (out .exit)) r ⌝ }
 {
     let s = y.shape;
@@ -127,7 +122,7 @@ fn write_iprp(
         gain_hvcc,
         alternate_icc,
     );
-    write_ipma(out, b, form, y.ipma, count, s, z)
+    write_ipma(out, b, form, y.ipma, s, z)
 }
 
 // iprp, grpl where there is a tone map, and idat.
@@ -136,7 +131,6 @@ fn write_property_boxes(
     at: usize,
     form: FileForm,
     y: Layout,
-    count: u32,
     z: Places,
     panel: Panel,
     color_hvcc: &[u8],
@@ -149,7 +143,6 @@ fn write_property_boxes(
     requires { ⌜ Item-sizes (form-of form) y ⌝ }
     requires { ⌜ Property-sizes (form-of form) (panel-of panel (lent-props (now «color_hvcc») (now «alpha_hvcc») (now icc) (now «gain_hvcc») (now «alternate_icc»))) y z (panel .dims) ⌝ }
     requires { ⌜ Fit z ⌝ }
-    requires { ⌜ count ≡ associated-items (y .shape) ⌝ }
     requires { ⌜ Sided (panel .dims) ⌝ }
     ensures { λ r. ⌜ Boxed (now (out .entry)) at (property-boxes-size (form-of form) (panel-of panel (lent-props (now («color_hvcc» .entry)) (now («alpha_hvcc» .entry)) (now (icc .entry)) (now («gain_hvcc» .entry)) (now («alternate_icc» .entry)))) (y .shape) z (panel .dims)) (property-boxes (form-of form) (panel-of panel (lent-props (now («color_hvcc» .entry)) (now («alpha_hvcc» .entry)) (now (icc .entry)) (now («gain_hvcc» .entry)) (now («alternate_icc» .entry)))) (y .shape) z (panel .dims)) (now (out .exit)) r ⌝ }
 {
@@ -160,7 +153,6 @@ fn write_property_boxes(
         at,
         form,
         y,
-        count,
         z,
         panel,
         color_hvcc,
@@ -179,11 +171,8 @@ pub fn write_meta(
     at: usize,
     form: FileForm,
     y: Layout,
-    count: u32,
     z: Places,
     panel: Panel,
-    exif: u32,
-    gain: PayloadLengths,
     color_hvcc: &[u8],
     alpha_hvcc: &[u8],
     color_lengths: &[u32],
@@ -196,24 +185,22 @@ pub fn write_meta(
     requires { ⌜ Item-sizes (form-of form) y ⌝ }
     requires { ⌜ Property-sizes (form-of form) (panel-of panel (lent-props (now «color_hvcc») (now «alpha_hvcc») (now icc) (now «gain_hvcc») (now «alternate_icc»))) y z (panel .dims) ⌝ }
     requires { ⌜ Fit z ⌝ }
-    requires { ⌜ count ≡ associated-items (y .shape) ⌝ }
     requires { ⌜ Sided (panel .dims) ⌝ }
     requires { ⌜ y .meta ≡ 12 + (item-boxes-size (form-of form) (y .shape) + property-boxes-size (form-of form) (panel-of panel (lent-props (now «color_hvcc») (now «alpha_hvcc») (now icc) (now «gain_hvcc») (now «alternate_icc»))) (y .shape) z (panel .dims)) ⌝ }
     requires { ⌜ length (now «color_lengths») ≡ y .shape .tiles ⌝ }
     requires { ⌜ length (now «alpha_lengths») ≡ y .shape .tiles ⌝ }
     requires { ⌜ y .«color_data» + total (now «color_lengths») < 4294967296 ⌝ }
     requires { ⌜ y .«alpha_data» + total (now «alpha_lengths») < 4294967296 ⌝ }
-    requires { ⌜ y .«other_data» + (exif + (gain .sample + gain .xmp)) < 4294967296 ⌝ }
-    ensures { λ r. ⌜ Boxed (now (out .entry)) at (12 + (item-boxes-size (form-of form) (y .shape) + property-boxes-size (form-of form) (panel-of panel (lent-props (now («color_hvcc» .entry)) (now («alpha_hvcc» .entry)) (now (icc .entry)) (now («gain_hvcc» .entry)) (now («alternate_icc» .entry)))) (y .shape) z (panel .dims))) (full "meta" 0 0 (boxes (item-boxes (form-of form) (y .shape) (placed (y .shape) (y .descriptor) (y .«color_data») (y .«alpha_data») (y .«other_data») (now («color_lengths» .entry)) (now («alpha_lengths» .entry)) (other-sizes (y .shape) exif gain)) ‖ property-boxes (form-of form) (panel-of panel (lent-props (now («color_hvcc» .entry)) (now («alpha_hvcc» .entry)) (now (icc .entry)) (now («gain_hvcc» .entry)) (now («alternate_icc» .entry)))) (y .shape) z (panel .dims))) ∷ []) (now (out .exit)) r ⌝ }
+    requires { ⌜ y .«other_data» + (y .exif + (y .gain .sample + y .gain .xmp)) < 4294967296 ⌝ }
+    ensures { λ r. ⌜ Boxed (now (out .entry)) at (12 + (item-boxes-size (form-of form) (y .shape) + property-boxes-size (form-of form) (panel-of panel (lent-props (now («color_hvcc» .entry)) (now («alpha_hvcc» .entry)) (now (icc .entry)) (now («gain_hvcc» .entry)) (now («alternate_icc» .entry)))) (y .shape) z (panel .dims))) (full "meta" 0 0 (boxes (item-boxes (form-of form) (y .shape) (placed (y .shape) (y .descriptor) (y .«color_data») (y .«alpha_data») (y .«other_data») (now («color_lengths» .entry)) (now («alpha_lengths» .entry)) (other-sizes (y .shape) (y .exif) (y .gain))) ‖ property-boxes (form-of form) (panel-of panel (lent-props (now («color_hvcc» .entry)) (now («alpha_hvcc» .entry)) (now (icc .entry)) (now («gain_hvcc» .entry)) (now («alternate_icc» .entry)))) (y .shape) z (panel .dims))) ∷ []) (now (out .exit)) r ⌝ }
 {
     let a = write_fullbox(out, at, y.meta, b"meta", 0, 0);
-    let b = write_item_boxes(out, a, form, y, exif, gain, color_lengths, alpha_lengths);
+    let b = write_item_boxes(out, a, form, y, color_lengths, alpha_lengths);
     write_property_boxes(
         out,
         b,
         form,
         y,
-        count,
         z,
         panel,
         color_hvcc,

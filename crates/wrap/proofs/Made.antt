@@ -7,35 +7,30 @@ use native.Mathlib.Omega.{arith}
 use lib.ListN.{length}
 use Rattle.octets.specs.Numbers.{_‖_, total}
 use Rattle.octets.specs.Boxes.{Box, box, full, boxes}
-use Rattle.panel.specs.Panel.{Tiles, Panel}
-use Rattle.panel.specs.Of.{Lent, panel-of, part, gain-of}
+use Rattle.panel.specs.Panel.{Tiles, Gain, Panel}
+use Rattle.panel.specs.Of.{Lent, panel-of, part}
 use Rattle.panel.specs.Items.{Form, given, has, listed, tone-of, shape, exif-payload, gain-payloads, other-payloads, colour-grid, alpha-tile, alpha-grid, exif-id}
 use Rattle.panel.specs.Iloc.{Location, descriptor, extents, located, locations}
 use Rattle.panel.specs.Ipco.{slots, ipco}
 use Rattle.panel.specs.Ipma.{positions, associations, ipma}
 use Rattle.panel.specs.File.{ftyp, head, grpl, idat, meta, mdat, data-at, file}
-use Rattle.panel.specs.Refusal.{refusal}
 use Rattle.panel.specs.declared.Panel.{Panel as Numbers}
-use Rattle.panel.specs.declared.color.Part.{Part}
-use Rattle.panel.specs.declared.color.Part.the-variants.{Absent, Present}
-use Rattle.panel.specs.declared.gain_map.MaybeGainMap.{MaybeGainMap}
-use Rattle.panel.specs.declared.gain_map.MaybeGainMap.the-variants as G
 use Rattle.panel.proofs.Payloads.{flatten-samples, lengths-samples, cut, locations-runs}
 use Rattle.length.specs.Parts.{Even, long}
 use Rattle.length.specs.Size.{exif-size}
 use Rattle.locations.specs.Spans.{spans}
 use Rattle.locations.proofs.Spans.{extents-spans}
 use Rattle.gain_map.specs.Parts.{with-payloads}
-use Rattle.locations.specs.declared.PayloadLengths.{PayloadLengths}
 use Rattle.offsets.specs.Laid.{Laid}
 use Rattle.offsets.specs.declared.Layout.{Layout}
 use Rattle.isobmff.specs.Locations.{other-sizes, placed}
 use Rattle.isobmff.specs.Parts.{lent-props}
-use Rattle.places.specs.Roles.{its-of, Placed}
+use Rattle.places.specs.Roles.{its-of}
 use Rattle.isobmff.specs.Sections.{item-boxes, property-boxes}
-use Rattle.places.specs.declared.Places.{Places}
 use Rattle.isobmff.proofs.Parts.{ipco-parts, mdat-parts}
-use Rattle.wrap.specs.Gains.{gain-lengths}
+use Rattle.locations.specs.Payloads.{gain-lengths}
+use Rattle.layout.specs.Plan.{Made-from}
+use Rattle.layout.specs.declared.FilePlan.{FilePlan}
 use Rattle.wrap.proofs.Ready.{even, color-sum, alpha-sum, same-associations, same-dims, same-tiles, same-alpha}
 
 -- ---- the sizes of the payloads behind the samples
@@ -44,28 +39,17 @@ exif-sizes : (e : Option (List ℕ)) → map length (exif-payload e) ≡ given (
 exif-sizes none = refl
 exif-sizes (some e) = let h : length ((0 ∷ 0 ∷ 0 ∷ 0 ∷ []) ++ e) ≡ 4 + length e = omega arith in ap (λ (k : ℕ). k ∷ []) h
 
-tone-sizes : (p : Part) (t : List ℕ) → map length (listed (part p t)) ≡ given (has (part p t)) (long (part p t) ∷ [])
-tone-sizes Absent t = refl
-tone-sizes Present t = refl
+tone-sizes : (t : Option (List ℕ)) → map length (listed t) ≡ given (has t) (long t ∷ [])
+tone-sizes none = refl
+tone-sizes (some t) = refl
 
-abbrev gains : MaybeGainMap → Lent → List ℕ
-gains g l =
-    let n = gain-lengths g (l .gain-sample) (l .gain-xmp) (l .gain-tmap) in
-    given (has (gain-of g l)) (n .sample ∷ n .xmp ∷ []) ‖ given (has (tone-of (gain-of g l))) (n .tmap ∷ [])
+gain-sizes : (g : Option Gain) → map length (gain-payloads g) ≡ given (has g) (gain-lengths g .sample ∷ gain-lengths g .xmp ∷ []) ‖ given (has (tone-of g)) (gain-lengths g .tmap ∷ [])
+gain-sizes none = refl
+gain-sizes (some g) = ap (λ (r : List ℕ). length (g .sample) ∷ length (g .xmp) ∷ r) (tone-sizes (g .tone))
 
-gain-sizes : (g : MaybeGainMap) (l : Lent) → map length (gain-payloads (gain-of g l)) ≡ gains g l
-gain-sizes G.None l = refl
-gain-sizes (G.Some g) l = ap (λ (r : List ℕ). length (l .gain-sample) ∷ length (l .gain-xmp) ∷ r) (tone-sizes (g .tmap) (l .gain-tmap))
-
-module _ (n : Numbers) (l : Lent) where
-  abbrev its-exif : ℕ
-  its-exif = exif-size (part (n .metadata .exif) (l .exif))
-
-  other-lengths : map length (other-payloads (panel-of n l)) ≡ other-sizes (shape (panel-of n l)) its-exif (gain-lengths (n .«gain_map») (l .gain-sample) (l .gain-xmp) (l .gain-tmap))
-  unfolding panel-of
-  other-lengths =
-      let e = exif-payload (part (n .metadata .exif) (l .exif)) in
-      map-append length e (gain-payloads (gain-of (n .«gain_map») l)) ∙ (λ i. exif-sizes (part (n .metadata .exif) (l .exif)) i ++ gain-sizes (n .«gain_map») l i)
+other-lengths : (p : Panel) → map length (other-payloads p) ≡ other-sizes (shape p) (exif-size (p .metadata .exif)) (gain-lengths (p .gain))
+other-lengths p =
+    map-append length (exif-payload (p .metadata .exif)) (gain-payloads (p .gain)) ∙ (λ i. exif-sizes (p .metadata .exif) i ++ gain-sizes (p .gain) i)
 
 -- ---- iloc's entries
 
@@ -93,21 +77,27 @@ placed-locations p h at {os} ho =
 
 -- ---- the file
 
-module _ (n : Numbers) (l : Lent) (w : Form) (y : Layout) (z : Places) (ok : refusal w (panel-of n l) ≡ 0) (e : Laid w (panel-of n l) y) (f : Placed (panel-of n l) z) where
+module _ (n : Numbers) (l : Lent) (w : Form) (m : FilePlan) (made : Made-from w (panel-of n l) m) where
   abbrev p : Panel
   p = panel-of n l
+
+  abbrev y : Layout
+  y = m .layout
+
+  abbrev e : Laid w p y
+  e = made .laid
 
   -- the places that the writer of iloc is given
   abbrev pub its-places : List Location
   its-places =
       placed (y .shape) (y .descriptor) (y .«color_data») (y .«alpha_data») (y .«other_data») (l .tiles .lengths) (l .alpha .lengths)
-      (other-sizes (y .shape) (exif-size (part (n .metadata .exif) (l .exif))) (gain-lengths (n .«gain_map») (l .gain-sample) (l .gain-xmp) (l .gain-tmap)))
+      (other-sizes (y .shape) (y .exif) (y .gain))
 
   its-locations : its-places ≡ locations (data-at w p) p
   its-locations =
       (λ i. placed (e .items i) (e .grid i) (e .color-data i) (e .alpha-data i) (e .other-data i) (sym (same-tiles n l) i .lengths) (sym (same-alpha n l) i .lengths)
-      (other-sizes (e .items i) (exif-size (part (n .metadata .exif) (l .exif))) (gain-lengths (n .«gain_map») (l .gain-sample) (l .gain-xmp) (l .gain-tmap))))
-      ∙ placed-locations p (even n l w y z ok e f) (data-at w p) (other-lengths n l)
+      (other-sizes (e .items i) (e .exif i) (e .gain i)))
+      ∙ placed-locations p (even n l w m made) (data-at w p) (other-lengths p)
 
   abbrev pub its-meta : Box
   its-meta =
@@ -117,14 +107,14 @@ module _ (n : Numbers) (l : Lent) (w : Form) (y : Layout) (z : Places) (ok : ref
       0
       (boxes
       (item-boxes w (y .shape) its-places
-      ‖ property-boxes w (panel-of n (lent-props (l .tiles .config) (l .alpha .config) (l .icc) (l .gain-hvcc) (l .alternate-icc))) (y .shape) z (n .dims)))
+      ‖ property-boxes w (panel-of n (lent-props (l .tiles .config) (l .alpha .config) (l .icc) (l .gain-hvcc) (l .alternate-icc))) (y .shape) (m .places) (n .dims)))
 
   made-meta : its-meta ≡ meta w (locations (data-at w p) p) p
   made-meta =
       let c : ipco (panel-of n (lent-props (l .tiles .config) (l .alpha .config) (l .icc) (l .gain-hvcc) (l .alternate-icc))) ≡ ipco p = sym (ipco-parts n l) in
-      let a : associations (shape p) (its-of z) ≡ associations (shape p) (positions 1 (slots p)) = same-associations n l w y z ok e f in
+      let a : associations (shape p) (its-of (m .places)) ≡ associations (shape p) (positions 1 (slots p)) = same-associations n l w m made in
       let d : n .dims ≡ p .dims = sym (same-dims n l) in
-      (λ i. full "meta" 0 0 (boxes (item-boxes w (e .items i) (its-locations i) ‖ box "iprp" (boxes (c i ∷ ipma w (associations (e .items i) (its-of z)) ∷ [])) ∷ grpl (e .items i) ‖ idat (d i) ∷ [])))
+      (λ i. full "meta" 0 0 (boxes (item-boxes w (e .items i) (its-locations i) ‖ box "iprp" (boxes (c i ∷ ipma w (associations (e .items i) (its-of (m .places))) ∷ [])) ∷ grpl (e .items i) ‖ idat (d i) ∷ [])))
       ∙ (λ i. full "meta" 0 0 (boxes (item-boxes w (shape p) (locations (data-at w p) p) ‖ box "iprp" (boxes (ipco p ∷ ipma w (a i) ∷ [])) ∷ grpl (shape p) ‖ idat (p .dims) ∷ [])))
 
   abbrev pub its-mdat : Box
@@ -132,7 +122,7 @@ module _ (n : Numbers) (l : Lent) (w : Form) (y : Layout) (z : Places) (ok : ref
       box "mdat" (l .tiles .bytes ‖ l .alpha .bytes ‖ flatten (exif-payload (part (n .metadata .exif) (l .exif))) ‖ flatten (gain-payloads (with-payloads (n .«gain_map») (l .gain-sample) (l .gain-xmp) (l .gain-tmap))))
 
   made-mdat : its-mdat ≡ mdat p
-  made-mdat = sym (mdat-parts n l (color-sum n l w y z ok e f) (alpha-sum n l w y z ok e f))
+  made-mdat = sym (mdat-parts n l (color-sum n l w m made) (alpha-sum n l w m made))
 
   made-head : ftyp (y .«color_rext») (y .«gain_rext») (y .shape .tone) ≡ head p
   made-head = λ i. ftyp (e .color-rext i) (e .gain-rext i) (e .items i .tone)
@@ -140,26 +130,3 @@ module _ (n : Numbers) (l : Lent) (w : Form) (y : Layout) (z : Places) (ok : ref
   pub made-file : boxes (ftyp (y .«color_rext») (y .«gain_rext») (y .shape .tone) ∷ its-meta ∷ its-mdat ∷ []) ≡ file w p
   unfolding file
   made-file = λ i. boxes (made-head i ∷ made-meta i ∷ made-mdat i ∷ [])
-
-  -- with sizes that are said to be those of what is lent
-  pub made-file-of : {x : ℕ} {g : PayloadLengths} → x ≡ exif-size (part (n .metadata .exif) (l .exif)) → g ≡ gain-lengths (n .«gain_map») (l .gain-sample) (l .gain-xmp) (l .gain-tmap)
-      → boxes (
-      ftyp (y .«color_rext») (y .«gain_rext») (y .shape .tone)
-      ∷ full "meta" 0 0 (boxes (
-      item-boxes w (y .shape) (placed (y .shape) (y .descriptor) (y .«color_data») (y .«alpha_data») (y .«other_data») (l .tiles .lengths) (l .alpha .lengths) (other-sizes (y .shape) x g))
-      ‖ property-boxes w (panel-of n (lent-props (l .tiles .config) (l .alpha .config) (l .icc) (l .gain-hvcc) (l .alternate-icc))) (y .shape) z (n .dims)
-      ))
-      ∷ its-mdat
-      ∷ []
-      ) ≡ file w p
-  made-file-of hx hg =
-      (λ i. boxes (
-      ftyp (y .«color_rext») (y .«gain_rext») (y .shape .tone)
-      ∷ full "meta" 0 0 (boxes (
-      item-boxes w (y .shape) (placed (y .shape) (y .descriptor) (y .«color_data») (y .«alpha_data») (y .«other_data») (l .tiles .lengths) (l .alpha .lengths) (other-sizes (y .shape) (hx i) (hg i)))
-      ‖ property-boxes w (panel-of n (lent-props (l .tiles .config) (l .alpha .config) (l .icc) (l .gain-hvcc) (l .alternate-icc))) (y .shape) z (n .dims)
-      ))
-      ∷ its-mdat
-      ∷ []
-      ))
-      ∙ made-file

@@ -14,7 +14,6 @@ use Rattle.panel.specs.Ipco
 use Rattle.panel.specs.Ipco.{slots, ipco}
 use Rattle.panel.specs.Ipma.{positions, associations, ipma}
 use Rattle.panel.specs.File.{rext, gain-rext, data-at, file, iprp}
-use Rattle.panel.specs.Refusal.{refusal}
 use Rattle.panel.specs.declared.Panel.{Panel as Numbers}
 use Rattle.panel.specs.declared.Shape.{Shape}
 use Rattle.panel.proofs.Accepted.{Accepted, accepted}
@@ -30,14 +29,15 @@ use Rattle.gain_map.specs.Parts.{with-payloads}
 use Rattle.offsets.specs.Laid.{Laid}
 use Rattle.offsets.specs.declared.Layout.{Layout}
 use Rattle.isobmff.specs.Parts.{lent-props}
-use Rattle.places.specs.Roles.{its-of, Placed}
+use Rattle.places.specs.Roles.{its-of}
 use Rattle.places.specs.Counts.{ipma-bytes}
 use Rattle.isobmff.specs.Sections.{item-boxes-size, Item-sizes, iprp-bytes, idat-bytes, property-boxes-size, Property-sizes}
 use Rattle.places.specs.declared.Places.{Places}
 use Rattle.places.proofs.Sizes.{associated-alike, ipma-by-runs}
-use Rattle.panel.specs.declared.gain_map.MaybeGainMap.{MaybeGainMap}
-use Rattle.panel.specs.declared.gain_map.MaybeGainMap.the-variants as G
-use Rattle.wrap.specs.Gains.{gain-lengths}
+use Rattle.locations.specs.declared.PayloadLengths.{PayloadLengths}
+use Rattle.sizes.proofs.Caps.{together}
+use Rattle.layout.specs.Plan.{Made-from}
+use Rattle.layout.specs.declared.FilePlan.{FilePlan}
 use Rattle.isobmff.proofs.Parts.{ipco-size-parts, mdat-sum}
 
 -- ---- what is lent, read off the panel
@@ -45,10 +45,6 @@ use Rattle.isobmff.proofs.Parts.{ipco-size-parts, mdat-sum}
 toned-only : (g : Option Gain) → has (tone-of g) ≡ true → has g ≡ true
 toned-only none e = e
 toned-only (some g) e = refl
-
-gain-bound : (g : MaybeGainMap) (s x t : List ℕ) → gain-lengths g s x t .sample + gain-lengths g s x t .xmp ≤ gain-data-size (with-payloads g s x t)
-gain-bound G.None s x t = omega arith
-gain-bound (G.Some g) s x t = omega arith
 
 module _ (n : Numbers) (l : Lent) where
   abbrev its-props : Lent
@@ -71,15 +67,24 @@ module _ (n : Numbers) (l : Lent) where
   unfolding panel-of
   same-alpha = refl
 
-  module _ (w : Form) (y : Layout) (z : Places) (ok : refusal w (panel-of n l) ≡ 0) (e : Laid w (panel-of n l) y) (f : Placed (panel-of n l) z) where
+  module _ (w : Form) (m : FilePlan) (made : Made-from w (panel-of n l) m) where
     abbrev p : Panel
     p = panel-of n l
+
+    abbrev y : Layout
+    y = m .layout
+
+    abbrev z : Places
+    z = m .places
+
+    abbrev e : Laid w p y
+    e = made .laid
 
     abbrev q : Panel
     q = panel-of n its-props
 
     pub good : Accepted w p
-    good = accepted w p ok
+    good = accepted w p (made .accepted)
 
     pub even : Even p
     even = even-accepted w p good
@@ -109,10 +114,10 @@ module _ (n : Numbers) (l : Lent) where
         }
 
     pub same-associations : associations (shape p) (its-of z) ≡ associations (shape p) (positions 1 (slots p))
-    same-associations = associated-alike p z f
+    same-associations = associated-alike p z (made .placed)
 
     its-ipma : 8 + ipma-size w p ≡ ipma-bytes w (shape p) z
-    its-ipma = ipma-by-runs w p z f
+    its-ipma = ipma-by-runs w p z (made .placed)
 
     pub property-sizes : Property-sizes w q y z (n .dims)
     property-sizes =
@@ -167,18 +172,17 @@ module _ (n : Numbers) (l : Lent) where
     pub alpha-end : y .«alpha_data» + total (l .alpha .lengths) < 4294967296
     alpha-end = omega (arith, fits, color-at, alpha-sum, e .alpha-data, e .color-data, ap (λ (t : Tiles). length (t .bytes)) same-tiles)
 
-    pub other-end : let g = gain-lengths (n .«gain_map») (l .gain-sample) (l .gain-xmp) (l .gain-tmap) in
-        y .«other_data» + (exif-size (part (n .metadata .exif) (l .exif)) + (g .sample + g .xmp)) < 4294967296
+    pub other-end : y .«other_data» + (y .exif + (y .gain .sample + y .gain .xmp)) < 4294967296
     other-end =
         omega (
           arith,
           fits,
-          color-at,
           e .other-data,
-          e .color-data,
-          ap (λ (t : Tiles). length (t .bytes)) same-tiles,
-          ap (λ (t : Tiles). length (t .bytes)) same-alpha,
-          gain-bound (n .«gain_map») (l .gain-sample) (l .gain-xmp) (l .gain-tmap),
+          data-at-size w p even,
+          e .exif,
+          ap (λ (g : PayloadLengths). g .sample) (e .gain),
+          ap (λ (g : PayloadLengths). g .xmp) (e .gain),
+          together (p .gain),
         )
 
     -- the whole file

@@ -20,7 +20,8 @@ use Rattle.ipma.proofs.write_ipma.Tie as tie
 write-color-associations-requires : tie.Need-write-color-associations-requires
 write-color-associations-requires c κs =
     let c2 = c .before .before .before in
-    let c1 = c2 .before .before .before .before in
+    let count = c2 .before in
+    let c1 = count .before .before .before .before in
     let start = c1 .before .before .before .before .before .before .before .before .before .before .before in
     (omega (arith, start .pre .0, (c1 .write-item-box .ensures) .end, kept (c1 .write-item-box .ensures), (c2 .w32 .ensures) .end, kept (c2 .w32 .ensures)), (start .pre .1 .0, (start .pre .1 .1 .0 .color, start .pre .1 .1 .0 .options)))
 
@@ -28,7 +29,8 @@ write-alpha-associations-requires : tie.Need-write-alpha-associations-requires
 write-alpha-associations-requires c κs =
     let c3 = c .before .before .before in
     let c2 = c3 .before .before .before .before in
-    let c1 = c2 .before .before .before .before in
+    let count = c2 .before in
+    let c1 = count .before .before .before .before in
     let start = c1 .before .before .before .before .before .before .before .before .before .before .before in
     (omega (arith, start .pre .0, (c1 .write-item-box .ensures) .end, kept (c1 .write-item-box .ensures), (c2 .w32 .ensures) .end, kept (c2 .w32 .ensures), (c3 .write-color-associations .ensures) .end, kept (c3 .write-color-associations .ensures)), (start .pre .1 .0, (start .pre .1 .1 .0 .color, (start .pre .1 .1 .0 .alpha, start .pre .1 .1 .0 .options))))
 
@@ -37,7 +39,8 @@ write-ipma-requires c κs =
     let c4 = c .before .before .before in
     let c3 = c4 .before .before .before .before in
     let c2 = c3 .before .before .before .before in
-    let c1 = c2 .before .before .before .before in
+    let count = c2 .before in
+    let c1 = count .before .before .before .before in
     let start = c1 .before .before .before .before .before .before .before .before .before .before .before in
     (omega (arith, start .pre .0, (c1 .write-item-box .ensures) .end, kept (c1 .write-item-box .ensures), (c2 .w32 .ensures) .end, kept (c2 .w32 .ensures), (c3 .write-color-associations .ensures) .end, kept (c3 .write-color-associations .ensures), (c4 .write-alpha-associations .ensures) .end, kept (c4 .write-alpha-associations .ensures)), (start .pre .1 .0, (start .pre .1 .1 .0 .image, (start .pre .1 .1 .0 .tone, (start .pre .1 .1 .0 .options .irot, start .pre .1 .1 .0 .options .imir)))))
 
@@ -47,9 +50,10 @@ returns c =
     let c4 = c5 .before .before .before .before in
     let c3 = c4 .before .before .before .before in
     let c2 = c3 .before .before .before .before in
-    let c1 = c2 .before .before .before .before in
+    let count = c2 .before in
+    let c1 = count .before .before .before .before in
     let start = c1 .before .before .before .before .before .before .before .before .before .before .before in
-    retold (raised "ipma" _ 0 (c1 .write-item-box .ensures) (told (c2 .w32 .ensures) (ap (be 4) (start .pre .1 .1 .1 .1 ∙ sym (length-associations (start .args .s) (its-of (start .args .y))))) refl ▹ told ((c3 .write-color-associations .ensures) ▹ (c4 .write-alpha-associations .ensures) ▹ (c5 .write-ipma .ensures)) (entries-joined (form-of (start .args .form)) (start .args .s) (start .args .y)) refl) (omega (arith, start .pre .1 .1 .1 .0))) refl (omega arith)
+    retold (raised "ipma" _ 0 (c1 .write-item-box .ensures) (told (c2 .w32 .ensures) (ap (be 4) (count .associated-items .ensures ∙ sym (length-associations (start .args .s) (its-of (start .args .y))))) refl ▹ told ((c3 .write-color-associations .ensures) ▹ (c4 .write-alpha-associations .ensures) ▹ (c5 .write-ipma .ensures)) (entries-joined (form-of (start .args .form)) (start .args .s) (start .args .y)) refl) (omega (arith, start .pre .1 .1 .1))) refl (omega arith)
 
 pub write-ipma-spec : {M : Type 1} → statement M
-write-ipma-spec = tie.close (tie.spec (λ c κs. search needs) (λ c κs. search needs) write-color-associations-requires write-alpha-associations-requires write-ipma-requires (λ c. search needs) returns)
+write-ipma-spec = tie.close (tie.spec (λ c κs. search needs) (λ c κs. search needs) (λ c κs. search needs) write-color-associations-requires write-alpha-associations-requires write-ipma-requires (λ c. search needs) returns)

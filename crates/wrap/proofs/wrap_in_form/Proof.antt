@@ -13,11 +13,11 @@ returns c =
 
 write-file-requires : tie.Need-write-file-requires
 write-file-requires c κs =
-    let i = c .before .before .before in
+    let i = c .before in
     let p = i .before .before .before in
     let y = p .before .before in
     let m = rw (p .plan2 .given .1) at ((y .plan-of .ensures) .0) in
-    (m .accepted, (m .laid, (m .placed, (m .fit, rw (m .long) at (i .if1 .left)))))
+    (m, i .if1 .left)
 
 returns-2 : tie.Need-returns-2
 returns-2 c =
@@ -27,7 +27,7 @@ returns-2 c =
 returns-3 : tie.Need-returns-3
 returns-3 c =
     let w = c .before .before in
-    let i = w .before .before .before .before in
+    let i = w .before .before in
     let p = i .before .before .before in
     let y = p .before .before in
     let m = rw (p .plan2 .given .1) at ((y .plan-of .ensures) .0) in

@@ -16,7 +16,7 @@ write-ipma-requires c κs =
     let c2 = c .before .before .before in
     let c1 = c2 .before .before .before .before in
     let start = c1 .before .before .before .before .before .before .before .before .before .before in
-    (omega (arith, start .pre .0, (c1 .write-box .ensures) .end, kept (c1 .write-box .ensures), (c2 .write-ipco .ensures) .wrote .end, kept ((c2 .write-ipco .ensures) .wrote)), (start .pre .1 .0 .shaped, (start .pre .1 .1 .1 .0, (start .pre .1 .1 .0 .ipma, start .pre .1 .1 .1 .1))))
+    (omega (arith, start .pre .0, (c1 .write-box .ensures) .end, kept (c1 .write-box .ensures), (c2 .write-ipco .ensures) .wrote .end, kept ((c2 .write-ipco .ensures) .wrote)), (start .pre .1 .0 .shaped, (start .pre .1 .1 .1, start .pre .1 .1 .0 .ipma)))
 
 returns : tie.Need-returns
 returns c =

@@ -8,7 +8,7 @@ use Rattle.isobmff.proofs.meta.write_property_boxes.Tie as tie
 write-iprp-requires : tie.Need-write-iprp-requires
 write-iprp-requires c κs =
     let start = c .before .before .before .before .before .before .before .before .before in
-    (omega (arith, start .pre .0), (start .pre .1 .0, (start .pre .1 .1 .0, (start .pre .1 .1 .1 .0, start .pre .1 .1 .1 .1 .0))))
+    (omega (arith, start .pre .0), (start .pre .1 .0, (start .pre .1 .1 .0, start .pre .1 .1 .1 .0)))
 
 write-groups-requires : tie.Need-write-groups-requires
 write-groups-requires c κs =
@@ -21,7 +21,7 @@ write-idat-requires c κs =
     let c2 = c .before .before .before in
     let c1 = c2 .before .before .before .before in
     let start = c1 .before .before .before .before .before .before .before .before .before .before in
-    (omega (arith, start .pre .0, (c1 .write-iprp .ensures) .wrote .end, kept ((c1 .write-iprp .ensures) .wrote), (c2 .write-groups .ensures) .wrote .end, kept ((c2 .write-groups .ensures) .wrote)), (start .pre .1 .1 .1 .1 .1, start .pre .1 .1 .0 .idat))
+    (omega (arith, start .pre .0, (c1 .write-iprp .ensures) .wrote .end, kept ((c1 .write-iprp .ensures) .wrote), (c2 .write-groups .ensures) .wrote .end, kept ((c2 .write-groups .ensures) .wrote)), (start .pre .1 .1 .1 .1, start .pre .1 .1 .0 .idat))
 
 returns : tie.Need-returns
 returns c =
