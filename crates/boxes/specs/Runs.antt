@@ -16,7 +16,7 @@ abbrev pub marked : Bool → List ℕ → List ℕ
 marked e l = cond e (essential l) l
 
 -- at most two positions, each of which leaves the highest of 8 bits free, as does the one behind them
-pub record Fitting (r : Run) : Type 0 where
+pub record Narrow (r : Run) : Type 0 where
   pub most : r .first .0 + r .count ≤ 127
   pub few : r .count ≤ 2
 

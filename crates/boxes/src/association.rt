@@ -8,7 +8,7 @@ ghost use Rattle.octets.specs.Numbers.{_‖_, be};
 ghost use Rattle.octets.specs.Stores.{Wrote};
 ghost use Rattle.panel.specs.Forms.{form-of};
 ghost use Rattle.panel.specs.Ipma.{essential, _with_, each, association};
-ghost use Rattle.boxes.specs.Runs.{places, marked, Fitting};
+ghost use Rattle.boxes.specs.Runs.{places, marked, Narrow};
 use crate::ids::ordinary_id;
 use crate::ids::write_ordinary_id;
 use octets::w8;
@@ -51,7 +51,7 @@ fn mark_of(is_essential: bool) -> u8
 // The associations of a role, essential or not.
 pub fn write_run(out: &mut [u8], at: usize, run: Run, is_essential: bool) -> usize
     requires { ⌜ at + run .count ≤ length (now out) ⌝ }
-    requires { ⌜ Fitting run ⌝ }
+    requires { ⌜ Narrow run ⌝ }
     ensures { λ r. ⌜ Wrote (now (out .entry)) at (run .count) (marked «is_essential» (places run)) (now (out .exit)) r ⌝ }
 {
     write_marked(out, at, run, mark_of(is_essential))
@@ -67,9 +67,9 @@ pub fn write_runs(
     is_essential: bool,
 ) -> usize
     requires { ⌜ at + (one .count + (two .count + three .count)) ≤ length (now out) ⌝ }
-    requires { ⌜ Fitting one ⌝ }
-    requires { ⌜ Fitting two ⌝ }
-    requires { ⌜ Fitting three ⌝ }
+    requires { ⌜ Narrow one ⌝ }
+    requires { ⌜ Narrow two ⌝ }
+    requires { ⌜ Narrow three ⌝ }
     ensures { λ r. ⌜ Wrote (now (out .entry)) at (one .count + (two .count + three .count)) (marked «is_essential» (places one) ‖ marked «is_essential» (places two) ‖ marked «is_essential» (places three)) (now (out .exit)) r ⌝ }
 {
     let a = write_run(out, at, one, is_essential);
@@ -113,9 +113,9 @@ fn write_color_tile_association(
     three: Run,
 ) -> usize
     requires { ⌜ at + (form-of form .id + 1 + (one .count + (two .count + three .count))) ≤ length (now out) ⌝ }
-    requires { ⌜ Fitting one ⌝ }
-    requires { ⌜ Fitting two ⌝ }
-    requires { ⌜ Fitting three ⌝ }
+    requires { ⌜ Narrow one ⌝ }
+    requires { ⌜ Narrow two ⌝ }
+    requires { ⌜ Narrow three ⌝ }
     ensures { λ r. ⌜ Wrote (now (out .entry)) at (form-of form .id + 1 + (one .count + (two .count + three .count))) (association (form-of form) (id .0 with essential (places one) ‖ essential (places two) ‖ essential (places three))) (now (out .exit)) r ⌝ }
 {
     let a = write_association_head(out, at, form, id, one.count + (two.count + three.count));
@@ -135,9 +135,9 @@ pub fn write_color_tile_associations(
 ) -> usize
     requires { ⌜ at + (form-of form .id + 1 + (one .count + (two .count + three .count))) * n ≤ length (now out) ⌝ }
     requires { ⌜ first .0 + n < 4294967296 ⌝ }
-    requires { ⌜ Fitting one ⌝ }
-    requires { ⌜ Fitting two ⌝ }
-    requires { ⌜ Fitting three ⌝ }
+    requires { ⌜ Narrow one ⌝ }
+    requires { ⌜ Narrow two ⌝ }
+    requires { ⌜ Narrow three ⌝ }
     ensures { λ r. ⌜ Wrote (now (out .entry)) at ((form-of form .id + 1 + (one .count + (two .count + three .count))) * n) (flatMap (association (form-of form)) (each (first .0) n (essential (places one) ‖ essential (places two) ‖ essential (places three)))) (now (out .exit)) r ⌝ }
 {
     let mut left = n;
@@ -161,8 +161,8 @@ fn write_alpha_tile_association(
     two: Run,
 ) -> usize
     requires { ⌜ at + (form-of form .id + 1 + (one .count + two .count)) ≤ length (now out) ⌝ }
-    requires { ⌜ Fitting one ⌝ }
-    requires { ⌜ Fitting two ⌝ }
+    requires { ⌜ Narrow one ⌝ }
+    requires { ⌜ Narrow two ⌝ }
     ensures { λ r. ⌜ Wrote (now (out .entry)) at (form-of form .id + 1 + (one .count + two .count)) (association (form-of form) (id .0 with essential (places one) ‖ essential (places two))) (now (out .exit)) r ⌝ }
 {
     let a = write_association_head(out, at, form, id, one.count + two.count);
@@ -182,8 +182,8 @@ pub fn write_alpha_tile_associations(
 ) -> usize
     requires { ⌜ at + (form-of form .id + 1 + (one .count + two .count)) * n ≤ length (now out) ⌝ }
     requires { ⌜ first .0 + n < 4294967296 ⌝ }
-    requires { ⌜ Fitting one ⌝ }
-    requires { ⌜ Fitting two ⌝ }
+    requires { ⌜ Narrow one ⌝ }
+    requires { ⌜ Narrow two ⌝ }
     ensures { λ r. ⌜ Wrote (now (out .entry)) at ((form-of form .id + 1 + (one .count + two .count)) * n) (flatMap (association (form-of form)) (each (first .0) n (essential (places one) ‖ essential (places two)))) (now (out .exit)) r ⌝ }
 {
     let mut left = n;

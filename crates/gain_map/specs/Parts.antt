@@ -10,8 +10,8 @@ use Rattle.panel.specs.declared.gain_map.MaybeGainMap.{MaybeGainMap}
 abbrev pub lent-gain : List ℕ → List ℕ → List ℕ → List ℕ → List ℕ → Lent
 lent-gain hvcc sample xmp tmap icc =
     record {
-      tiles = record { config = []; lengths = []; bytes = [] };
-      alpha = record { config = []; lengths = []; bytes = [] };
+      tiles = record { hvcc = []; lengths = []; bytes = [] };
+      alpha = record { hvcc = []; lengths = []; bytes = [] };
       icc = [];
       exif = [];
       gain-hvcc = hvcc;

@@ -8,8 +8,8 @@ ghost use Rattle.octets.specs.Stores.{Wrote};
 ghost use Rattle.panel.specs.Items.{given, gain-id};
 ghost use Rattle.panel.specs.Forms.{form-of};
 ghost use Rattle.panel.specs.Ipma.{_with_, association};
-ghost use Rattle.boxes.specs.Runs.{Fitting, Shaped};
-ghost use Rattle.places.specs.Places.{Image-fits, Tone-fits};
+ghost use Rattle.boxes.specs.Runs.{Narrow, Shaped};
+ghost use Rattle.places.specs.Places.{Narrow-image, Narrow-tone};
 ghost use Rattle.places.specs.Counts.{image-count, tone-count};
 ghost use Rattle.places.specs.Lists.{image-list, tone-list};
 use boxes::association::Run;
@@ -28,9 +28,9 @@ use places::associations::tone_count;
 // The gain image's properties and transforms, without the head of the entry.
 fn write_image_list(out: &mut [u8], at: usize, p: ImagePlaces, irot: Run, imir: Run) -> usize
     requires { ⌜ at + image-count p irot imir ≤ length (now out) ⌝ }
-    requires { ⌜ Image-fits p ⌝ }
-    requires { ⌜ Fitting irot ⌝ }
-    requires { ⌜ Fitting imir ⌝ }
+    requires { ⌜ Narrow-image p ⌝ }
+    requires { ⌜ Narrow irot ⌝ }
+    requires { ⌜ Narrow imir ⌝ }
     ensures { λ r. ⌜ Wrote (now (out .entry)) at (image-count p irot imir) (image-list p irot imir) (now (out .exit)) r ⌝ }
 {
     let hvcc = p.hvcc;
@@ -57,9 +57,9 @@ fn write_image_association(
 ) -> usize
     requires { ⌜ at + cond (s .gain) (form-of form .id + 1 + image-count p irot imir) 0 ≤ length (now out) ⌝ }
     requires { ⌜ Shaped s ⌝ }
-    requires { ⌜ Image-fits p ⌝ }
-    requires { ⌜ Fitting irot ⌝ }
-    requires { ⌜ Fitting imir ⌝ }
+    requires { ⌜ Narrow-image p ⌝ }
+    requires { ⌜ Narrow irot ⌝ }
+    requires { ⌜ Narrow imir ⌝ }
     ensures { λ r. ⌜ Wrote (now (out .entry)) at (cond (s .gain) (form-of form .id + 1 + image-count p irot imir) 0) (flatMap (association (form-of form)) (given (s .gain) ((gain-id s with image-list p irot imir) ∷ []))) (now (out .exit)) r ⌝ }
 {
     if s.gain {
@@ -80,7 +80,7 @@ fn write_tone_association(
 ) -> usize
     requires { ⌜ at + cond (s .tone) (form-of form .id + 1 + tone-count p) 0 ≤ length (now out) ⌝ }
     requires { ⌜ Shaped s ⌝ }
-    requires { ⌜ Tone-fits p ⌝ }
+    requires { ⌜ Narrow-tone p ⌝ }
     ensures { λ r. ⌜ Wrote (now (out .entry)) at (cond (s .tone) (form-of form .id + 1 + tone-count p) 0) (flatMap (association (form-of form)) (given (s .tone) ((gain-id s + 2 with tone-list p) ∷ []))) (now (out .exit)) r ⌝ }
 {
     let ispe = p.ispe;
@@ -107,10 +107,10 @@ pub fn write_ipma(
 ) -> usize
     requires { ⌜ at + (cond (s .gain) (form-of form .id + 1 + image-count image irot imir) 0 + cond (s .tone) (form-of form .id + 1 + tone-count tone) 0) ≤ length (now out) ⌝ }
     requires { ⌜ Shaped s ⌝ }
-    requires { ⌜ Image-fits image ⌝ }
-    requires { ⌜ Tone-fits tone ⌝ }
-    requires { ⌜ Fitting irot ⌝ }
-    requires { ⌜ Fitting imir ⌝ }
+    requires { ⌜ Narrow-image image ⌝ }
+    requires { ⌜ Narrow-tone tone ⌝ }
+    requires { ⌜ Narrow irot ⌝ }
+    requires { ⌜ Narrow imir ⌝ }
     ensures { λ r. ⌜ Wrote (now (out .entry)) at (cond (s .gain) (form-of form .id + 1 + image-count image irot imir) 0 + cond (s .tone) (form-of form .id + 1 + tone-count tone) 0) (flatMap (association (form-of form)) (given (s .gain) ((gain-id s with image-list image irot imir) ∷ []) ‖ given (s .tone) ((gain-id s + 2 with tone-list tone) ∷ []))) (now (out .exit)) r ⌝ }
 {
     let a = write_image_association(out, at, form, s, image, irot, imir);

@@ -2,9 +2,9 @@
 ghost use Prim.Native.Nat.{_+_, _≤_};
 ghost use lib.ListN.{length};
 ghost use Rattle.octets.specs.Stores.{Wrote};
-ghost use Rattle.places.specs.Places.{Color-fits, Alpha-fits, Options-fit};
-ghost use Rattle.places.specs.Counts.{option-count, color-grid-count, alpha-grid-count};
-ghost use Rattle.places.specs.Lists.{option-list, color-grid-list, alpha-grid-list};
+ghost use Rattle.places.specs.Places.{Narrow-colour, Narrow-alpha, Narrow-options};
+ghost use Rattle.places.specs.Counts.{option-count, colour-grid-count, alpha-grid-count};
+ghost use Rattle.places.specs.Lists.{option-list, colour-grid-list, alpha-grid-list};
 use boxes::association::write_run;
 use boxes::association::write_runs;
 use places::pictures::AlphaPlaces;
@@ -14,7 +14,7 @@ use places::pictures::OptionPlaces;
 // The colour grid's properties that may be absent: the second colr, clli and the transforms, which come last and are essential.
 fn write_option_list(out: &mut [u8], at: usize, o: OptionPlaces) -> usize
     requires { ⌜ at + option-count o ≤ length (now out) ⌝ }
-    requires { ⌜ Options-fit o ⌝ }
+    requires { ⌜ Narrow-options o ⌝ }
     ensures { λ r. ⌜ Wrote (now (out .entry)) at (option-count o) (option-list o) (now (out .exit)) r ⌝ }
 {
     let second = o.colr;
@@ -29,10 +29,10 @@ fn write_option_list(out: &mut [u8], at: usize, o: OptionPlaces) -> usize
 
 // The colour grid's properties: ispe, colr, which is essential, pixi, and those that may be absent.
 pub fn write_color_grid_list(out: &mut [u8], at: usize, c: ColorPlaces, o: OptionPlaces) -> usize
-    requires { ⌜ at + color-grid-count c o ≤ length (now out) ⌝ }
-    requires { ⌜ Color-fits c ⌝ }
-    requires { ⌜ Options-fit o ⌝ }
-    ensures { λ r. ⌜ Wrote (now (out .entry)) at (color-grid-count c o) (color-grid-list c o) (now (out .exit)) r ⌝ }
+    requires { ⌜ at + colour-grid-count c o ≤ length (now out) ⌝ }
+    requires { ⌜ Narrow-colour c ⌝ }
+    requires { ⌜ Narrow-options o ⌝ }
+    ensures { λ r. ⌜ Wrote (now (out .entry)) at (colour-grid-count c o) (colour-grid-list c o) (now (out .exit)) r ⌝ }
 {
     let full = c.ispe_full;
     let colr = c.colr;
@@ -52,9 +52,9 @@ pub fn write_alpha_grid_list(
     o: OptionPlaces,
 ) -> usize
     requires { ⌜ at + alpha-grid-count c a o ≤ length (now out) ⌝ }
-    requires { ⌜ Color-fits c ⌝ }
-    requires { ⌜ Alpha-fits a ⌝ }
-    requires { ⌜ Options-fit o ⌝ }
+    requires { ⌜ Narrow-colour c ⌝ }
+    requires { ⌜ Narrow-alpha a ⌝ }
+    requires { ⌜ Narrow-options o ⌝ }
     ensures { λ r. ⌜ Wrote (now (out .entry)) at (alpha-grid-count c a o) (alpha-grid-list c a o) (now (out .exit)) r ⌝ }
 {
     let full = c.ispe_full;

@@ -7,11 +7,11 @@ ghost use Rattle.octets.specs.Stores.{Wrote, Boxed};
 ghost use Rattle.panel.specs.Forms.{form-of};
 ghost use Rattle.panel.specs.Ipma.{association, associations, ipma};
 ghost use Rattle.length.specs.Properties.{associated-items};
-ghost use Rattle.places.specs.Roles.{its-of, Fit};
-ghost use Rattle.places.specs.Counts.{ipma-bytes, color-entries-size, alpha-entries-size};
+ghost use Rattle.places.specs.Roles.{its-of, Narrow-places};
+ghost use Rattle.places.specs.Counts.{ipma-bytes, colour-entries-size, alpha-entries-size};
 ghost use Rattle.boxes.specs.Runs.{Shaped};
-ghost use Rattle.places.specs.Places.{Color-fits, Alpha-fits, Options-fit};
-ghost use Rattle.places.specs.Lists.{color-entries, alpha-entries};
+ghost use Rattle.places.specs.Places.{Narrow-colour, Narrow-alpha, Narrow-options};
+ghost use Rattle.places.specs.Lists.{colour-entries, alpha-entries};
 use boxes::association::write_alpha_tile_associations;
 use boxes::association::write_association_head;
 use boxes::association::write_color_tile_associations;
@@ -42,11 +42,11 @@ fn write_color_associations(
     c: ColorPlaces,
     o: OptionPlaces,
 ) -> usize
-    requires { ⌜ at + color-entries-size (form-of form) s c o ≤ length (now out) ⌝ }
+    requires { ⌜ at + colour-entries-size (form-of form) s c o ≤ length (now out) ⌝ }
     requires { ⌜ Shaped s ⌝ }
-    requires { ⌜ Color-fits c ⌝ }
-    requires { ⌜ Options-fit o ⌝ }
-    ensures { λ r. ⌜ Wrote (now (out .entry)) at (color-entries-size (form-of form) s c o) (flatMap (association (form-of form)) (color-entries s c o)) (now (out .exit)) r ⌝ }
+    requires { ⌜ Narrow-colour c ⌝ }
+    requires { ⌜ Narrow-options o ⌝ }
+    ensures { λ r. ⌜ Wrote (now (out .entry)) at (colour-entries-size (form-of form) s c o) (flatMap (association (form-of form)) (colour-entries s c o)) (now (out .exit)) r ⌝ }
 {
     let hvcc = c.hvcc;
     let tile = c.ispe_tile;
@@ -70,9 +70,9 @@ fn write_alpha_associations(
 ) -> usize
     requires { ⌜ at + alpha-entries-size (form-of form) s c a o ≤ length (now out) ⌝ }
     requires { ⌜ Shaped s ⌝ }
-    requires { ⌜ Color-fits c ⌝ }
-    requires { ⌜ Alpha-fits a ⌝ }
-    requires { ⌜ Options-fit o ⌝ }
+    requires { ⌜ Narrow-colour c ⌝ }
+    requires { ⌜ Narrow-alpha a ⌝ }
+    requires { ⌜ Narrow-options o ⌝ }
     ensures { λ r. ⌜ Wrote (now (out .entry)) at (alpha-entries-size (form-of form) s c a o) (flatMap (association (form-of form)) (alpha-entries s c a o)) (now (out .exit)) r ⌝ }
 {
     let hvcc = a.hvcc;
@@ -104,7 +104,7 @@ pub fn write_ipma(
 ) -> usize
     requires { ⌜ at + ipma-bytes (form-of form) s y ≤ length (now out) ⌝ }
     requires { ⌜ Shaped s ⌝ }
-    requires { ⌜ Fit y ⌝ }
+    requires { ⌜ Narrow-places y ⌝ }
     requires { ⌜ size ≡ ipma-bytes (form-of form) s y ⌝ }
     ensures { λ r. ⌜ Boxed (now (out .entry)) at (ipma-bytes (form-of form) s y) (ipma (form-of form) (associations s (its-of y)) ∷ []) (now (out .exit)) r ⌝ }
 {

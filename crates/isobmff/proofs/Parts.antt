@@ -24,13 +24,13 @@ use Rattle.length.specs.Properties.{gain-properties-size, ipco-size}
 use Rattle.length.specs.Size.{exif-size, gain-data-size, mdat-size}
 use Rattle.length.proofs.Properties.{length-ipco}
 use Rattle.gain_map.specs.Parts.{with-properties, with-payloads}
-use Rattle.isobmff.specs.Parts.{lent-props, color-properties, color-properties-size, alpha-properties, alpha-properties-size, optional-properties, optional-properties-size}
+use Rattle.isobmff.specs.Parts.{lent-props, colour-properties, colour-properties-size, alpha-properties, alpha-properties-size, optional-properties, optional-properties-size}
 
 -- ---- ipco
 
 -- what it holds of a lending
 abbrev props : Lent → Lent
-props l = lent-props (l .tiles .config) (l .alpha .config) (l .icc) (l .gain-hvcc) (l .alternate-icc)
+props l = lent-props (l .tiles .hvcc) (l .alpha .hvcc) (l .icc) (l .gain-hvcc) (l .alternate-icc)
 
 same-properties : (g : MaybeGainMap) (l : Lent) → gain-of g (props l) ≡ with-properties g (l .gain-hvcc) (l .alternate-icc)
 same-properties G.None l = refl
@@ -50,8 +50,8 @@ module _ (n : Numbers) (l : Lent) where
       box
       "ipco"
       (boxes
-      (color-properties (n .dims) (n .«bit_depth») (l .tiles .config) c
-      ‖ alpha-properties (n .«bit_depth») (l .alpha .config)
+      (colour-properties (n .dims) (n .«bit_depth») (l .tiles .hvcc) c
+      ‖ alpha-properties (n .«bit_depth») (l .alpha .hvcc)
       ‖ optional "colr" (second-colr (c .cicp) (c .icc))
       ‖ optional "irot" (irot-payload (irot-steps (m .orientation)))
       ‖ optional "imir" (imir-payload (imir-axis (m .orientation)))
@@ -68,12 +68,12 @@ module _ (n : Numbers) (l : Lent) where
 
   -- as it is written, piece by piece
   joined : (r : List Box) → let c = colour-of (n .«color_meta») (l .icc) in
-      box "ipco" (boxes (color-properties (n .dims) (n .«bit_depth») (l .tiles .config) c ‖ alpha-properties (n .«bit_depth») (l .alpha .config) ‖ optional-properties c (n .metadata) ‖ r)) ≡ with-gain r
+      box "ipco" (boxes (colour-properties (n .dims) (n .«bit_depth») (l .tiles .hvcc) c ‖ alpha-properties (n .«bit_depth») (l .alpha .hvcc) ‖ optional-properties c (n .metadata) ‖ r)) ≡ with-gain r
   joined r =
       let c = colour-of (n .«color_meta») (l .icc) in
       let m = n .metadata in
       ap
-      (λ (k : List Box). box "ipco" (boxes (color-properties (n .dims) (n .«bit_depth») (l .tiles .config) c ‖ alpha-properties (n .«bit_depth») (l .alpha .config) ‖ k)))
+      (λ (k : List Box). box "ipco" (boxes (colour-properties (n .dims) (n .«bit_depth») (l .tiles .hvcc) c ‖ alpha-properties (n .«bit_depth») (l .alpha .hvcc) ‖ k)))
       (four-joined
       (optional "colr" (second-colr (c .cicp) (c .icc)))
       (optional "irot" (irot-payload (irot-steps (m .orientation))))
@@ -86,8 +86,8 @@ pub ipco-joined : (n : Numbers) (l : Lent)
     box
     "ipco"
     (boxes
-    (color-properties (n .dims) (n .«bit_depth») (l .tiles .config) c
-    ‖ alpha-properties (n .«bit_depth») (l .alpha .config)
+    (colour-properties (n .dims) (n .«bit_depth») (l .tiles .hvcc) c
+    ‖ alpha-properties (n .«bit_depth») (l .alpha .hvcc)
     ‖ optional-properties c (n .metadata)
     ‖ gain-boxes n l (with-properties (n .«gain_map») (l .gain-hvcc) (l .alternate-icc))))
     ≡ ipco (panel-of n (props l))
@@ -99,8 +99,8 @@ ipco-joined n l =
 -- its size, part by part
 pub ipco-sum : (n : Numbers) (l : Lent)
     → let c = colour-of (n .«color_meta») (l .icc) in
-    color-properties-size (l .tiles .config) c
-    + (alpha-properties-size (l .alpha .config)
+    colour-properties-size (l .tiles .hvcc) c
+    + (alpha-properties-size (l .alpha .hvcc)
     + (optional-properties-size c (n .metadata) + gain-properties-size (with-properties (n .«gain_map») (l .gain-hvcc) (l .alternate-icc))))
     ≡ ipco-size (panel-of n (props l))
 unfolding panel-of
@@ -115,13 +115,13 @@ same-gain-slots : (x y : Box) (g : MaybeGainMap) (l : Lent) → gain-slots x y (
 same-gain-slots x y G.None l = refl
 same-gain-slots x y (G.Some g) l = rw (same-tone-slots x y (g .tmap) (l .gain-tmap) [] (alternate-of (g .«alternate_color») (l .alternate-icc))) refl
 
-pub ipco-parts : (n : Numbers) (l : Lent) → ipco (panel-of n l) ≡ ipco (panel-of n (lent-props (l .tiles .config) (l .alpha .config) (l .icc) (l .gain-hvcc) (l .alternate-icc)))
+pub ipco-parts : (n : Numbers) (l : Lent) → ipco (panel-of n l) ≡ ipco (panel-of n (lent-props (l .tiles .hvcc) (l .alpha .hvcc) (l .icc) (l .gain-hvcc) (l .alternate-icc)))
 ipco-parts n l =
     let gain = same-gain-slots (tone-ispe (n .dims) (n .metadata .orientation)) (pixi 3 (max (bits (n .«bit_depth»)) 10)) (n .«gain_map») l in
     ipco-with-gain n l ∙ ap (λ (r : List (Role × List Box)). with-gain n l (held r)) gain ∙ sym (ipco-with-gain n (props l))
 
 pub ipco-size-parts : (n : Numbers) (l : Lent)
-    → ipco-size (panel-of n l) ≡ ipco-size (panel-of n (lent-props (l .tiles .config) (l .alpha .config) (l .icc) (l .gain-hvcc) (l .alternate-icc)))
+    → ipco-size (panel-of n l) ≡ ipco-size (panel-of n (lent-props (l .tiles .hvcc) (l .alpha .hvcc) (l .icc) (l .gain-hvcc) (l .alternate-icc)))
 ipco-size-parts n l =
     sym (length-ipco (panel-of n l)) ∙ ap (λ (b : Box). length (b .body)) (ipco-parts n l) ∙ length-ipco (panel-of n (props l))
 

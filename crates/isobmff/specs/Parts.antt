@@ -17,8 +17,8 @@ use Rattle.length.specs.Properties.{first-colr-size, second-colr-size, irot-siz
 abbrev pub lent-props : List ℕ → List ℕ → List ℕ → List ℕ → List ℕ → Lent
 lent-props colour alpha icc gain alternate =
     record {
-      tiles = record { config = colour; lengths = []; bytes = [] };
-      alpha = record { config = alpha; lengths = []; bytes = [] };
+      tiles = record { hvcc = colour; lengths = []; bytes = [] };
+      alpha = record { hvcc = alpha; lengths = []; bytes = [] };
       icc = icc;
       exif = [];
       gain-hvcc = gain;
@@ -29,12 +29,12 @@ lent-props colour alpha icc gain alternate =
     }
 
 -- the colour picture's
-abbrev pub color-properties : GridDims → BitDepth → List ℕ → Colour → List Box
-color-properties d depth hvcc c =
+abbrev pub colour-properties : GridDims → BitDepth → List ℕ → Colour → List Box
+colour-properties d depth hvcc c =
     box "hvcC" hvcc ∷ ispe (d .«tile_w») (d .«tile_h») ∷ ispe (d .«full_w») (d .«full_h») ∷ box "colr" (first-colr (c .cicp) (c .icc)) ∷ pixi 3 (bits depth) ∷ []
 
-abbrev pub color-properties-size : List ℕ → Colour → ℕ
-color-properties-size hvcc c = (8 + length hvcc) + (20 + (20 + (first-colr-size (c .cicp) (c .icc) + 16)))
+abbrev pub colour-properties-size : List ℕ → Colour → ℕ
+colour-properties-size hvcc c = (8 + length hvcc) + (20 + (20 + (first-colr-size (c .cicp) (c .icc) + 16)))
 
 -- the alpha picture's
 abbrev pub alpha-properties : BitDepth → List ℕ → List Box

@@ -12,7 +12,7 @@ ghost use Rattle.panel.specs.File.{idat};
 ghost use Rattle.grids.specs.Descriptors.{Sided};
 ghost use Rattle.isobmff.specs.Locations.{other-sizes, placed};
 ghost use Rattle.isobmff.specs.Parts.{lent-props};
-ghost use Rattle.places.specs.Roles.{Fit};
+ghost use Rattle.places.specs.Roles.{Narrow-places};
 ghost use Rattle.isobmff.specs.Sections.{item-boxes, item-boxes-size, Item-sizes, iprp-of, iprp-bytes, idat-bytes, property-boxes, property-boxes-size, Property-sizes};
 use crate::location::Offsets;
 use crate::location::write_iloc;
@@ -106,7 +106,7 @@ fn write_iprp(
     requires { ⌜ at + iprp-bytes (form-of form) (panel-of panel (lent-props (now «color_hvcc») (now «alpha_hvcc») (now icc) (now «gain_hvcc») (now «alternate_icc»))) (y .shape) z ≤ length (now out) ⌝ }
     requires { ⌜ Item-sizes (form-of form) y ⌝ }
     requires { ⌜ Property-sizes (form-of form) (panel-of panel (lent-props (now «color_hvcc») (now «alpha_hvcc») (now icc) (now «gain_hvcc») (now «alternate_icc»))) y z (panel .dims) ⌝ }
-    requires { ⌜ Fit z ⌝ }
+    requires { ⌜ Narrow-places z ⌝ }
     ensures { λ r. ⌜ Boxed (now (out .entry)) at (iprp-bytes (form-of form) (panel-of panel (lent-props (now («color_hvcc» .entry)) (now («alpha_hvcc» .entry)) (now (icc .entry)) (now («gain_hvcc» .entry)) (now («alternate_icc» .entry)))) (y .shape) z) (iprp-of (form-of form) (panel-of panel (lent-props (now («color_hvcc» .entry)) (now («alpha_hvcc» .entry)) (now (icc .entry)) (now («gain_hvcc» .entry)) (now («alternate_icc» .entry)))) (y .shape) z ∷ []) (now (out .exit)) r ⌝ }
 {
     let s = y.shape;
@@ -142,7 +142,7 @@ fn write_property_boxes(
     requires { ⌜ at + property-boxes-size (form-of form) (panel-of panel (lent-props (now «color_hvcc») (now «alpha_hvcc») (now icc) (now «gain_hvcc») (now «alternate_icc»))) (y .shape) z (panel .dims) ≤ length (now out) ⌝ }
     requires { ⌜ Item-sizes (form-of form) y ⌝ }
     requires { ⌜ Property-sizes (form-of form) (panel-of panel (lent-props (now «color_hvcc») (now «alpha_hvcc») (now icc) (now «gain_hvcc») (now «alternate_icc»))) y z (panel .dims) ⌝ }
-    requires { ⌜ Fit z ⌝ }
+    requires { ⌜ Narrow-places z ⌝ }
     requires { ⌜ Sided (panel .dims) ⌝ }
     ensures { λ r. ⌜ Boxed (now (out .entry)) at (property-boxes-size (form-of form) (panel-of panel (lent-props (now («color_hvcc» .entry)) (now («alpha_hvcc» .entry)) (now (icc .entry)) (now («gain_hvcc» .entry)) (now («alternate_icc» .entry)))) (y .shape) z (panel .dims)) (property-boxes (form-of form) (panel-of panel (lent-props (now («color_hvcc» .entry)) (now («alpha_hvcc» .entry)) (now (icc .entry)) (now («gain_hvcc» .entry)) (now («alternate_icc» .entry)))) (y .shape) z (panel .dims)) (now (out .exit)) r ⌝ }
 {
@@ -184,7 +184,7 @@ pub fn write_meta(
     requires { ⌜ at + (12 + (item-boxes-size (form-of form) (y .shape) + property-boxes-size (form-of form) (panel-of panel (lent-props (now «color_hvcc») (now «alpha_hvcc») (now icc) (now «gain_hvcc») (now «alternate_icc»))) (y .shape) z (panel .dims))) ≤ length (now out) ⌝ }
     requires { ⌜ Item-sizes (form-of form) y ⌝ }
     requires { ⌜ Property-sizes (form-of form) (panel-of panel (lent-props (now «color_hvcc») (now «alpha_hvcc») (now icc) (now «gain_hvcc») (now «alternate_icc»))) y z (panel .dims) ⌝ }
-    requires { ⌜ Fit z ⌝ }
+    requires { ⌜ Narrow-places z ⌝ }
     requires { ⌜ Sided (panel .dims) ⌝ }
     requires { ⌜ y .meta ≡ 12 + (item-boxes-size (form-of form) (y .shape) + property-boxes-size (form-of form) (panel-of panel (lent-props (now «color_hvcc») (now «alpha_hvcc») (now icc) (now «gain_hvcc») (now «alternate_icc»))) (y .shape) z (panel .dims)) ⌝ }
     requires { ⌜ length (now «color_lengths») ≡ y .shape .tiles ⌝ }

@@ -11,7 +11,7 @@ ghost use Rattle.panel.specs.Of.{colour-of, panel-of};
 ghost use Rattle.panel.specs.Ipco.{pixi, tone-ispe, gain-slots, held, ipco};
 ghost use Rattle.length.specs.Properties.{gain-properties-size, ipco-size};
 ghost use Rattle.gain_map.specs.Parts.{with-properties};
-ghost use Rattle.isobmff.specs.Parts.{lent-props, color-properties, color-properties-size, alpha-properties, alpha-properties-size, optional-properties, optional-properties-size};
+ghost use Rattle.isobmff.specs.Parts.{lent-props, colour-properties, colour-properties-size, alpha-properties, alpha-properties-size, optional-properties, optional-properties-size};
 use octets::write_box;
 use panel::GridDims;
 use panel::Panel;
@@ -41,9 +41,9 @@ fn write_color_properties(
     hvcc: &[u8],
     icc: &[u8],
 ) -> usize
-    requires { ⌜ at + color-properties-size (now hvcc) (colour-of color (now icc)) ≤ length (now out) ⌝ }
-    requires { ⌜ color-properties-size (now hvcc) (colour-of color (now icc)) < 4294967296 ⌝ }
-    ensures { λ r. ⌜ Boxed (now (out .entry)) at (color-properties-size (now (hvcc .entry)) (colour-of color (now (icc .entry)))) (color-properties dims depth (now (hvcc .entry)) (colour-of color (now (icc .entry)))) (now (out .exit)) r ⌝ }
+    requires { ⌜ at + colour-properties-size (now hvcc) (colour-of color (now icc)) ≤ length (now out) ⌝ }
+    requires { ⌜ colour-properties-size (now hvcc) (colour-of color (now icc)) < 4294967296 ⌝ }
+    ensures { λ r. ⌜ Boxed (now (out .entry)) at (colour-properties-size (now (hvcc .entry)) (colour-of color (now (icc .entry)))) (colour-properties dims depth (now (hvcc .entry)) (colour-of color (now (icc .entry)))) (now (out .exit)) r ⌝ }
 {
     let a = write_hvcc(out, at, hvcc);
     let b = write_ispe(out, a, dims.tile_w, dims.tile_h);

@@ -96,7 +96,7 @@ module _ (f : Form) (n : Numbers) (l : Lent) where
 
   -- and with them all that its layout is made from
   pub given : {z : Sizes} {s : Shape} {k : ℕ} {color gain : Bool} → refusal f (panel-of n l) ≡ 0 → Sized f (panel-of n l) z → s ≡ shape (panel-of n l) → k ≡ descriptor-size (n .dims)
-      → color ≡ rext (l .tiles .config) → gain ≡ gain-rext (gain-of (n .«gain_map») l) → Given f (panel-of n l) z s k (length (l .tiles .bytes)) (length (l .alpha .bytes)) color gain
+      → color ≡ rext (l .tiles .hvcc) → gain ≡ gain-rext (gain-of (n .«gain_map») l) → Given f (panel-of n l) z s k (length (l .tiles .bytes)) (length (l .alpha .bytes)) color gain
   unfolding panel-of
   given e y i k c g =
       record { even = even-accepted f _ (is-accepted f _ e); sized = y; items = i; grid = k ∙ sym (length-descriptor (n .dims)); colors = refl; alphas = refl; color-rext = c; gain-rext = g }

@@ -6,8 +6,8 @@ use Rattle.panel.specs.Of.{Lent}
 unfoldable pub lent : List ℕ → List ℕ → List ℕ → List ℕ → List ℕ → List ℕ → List ℕ → List ℕ → List ℕ → List ℕ → List ℕ → List ℕ → List ℕ → Lent
 lent color-hvcc alpha-hvcc color-lengths alpha-lengths color-samples alpha-samples icc exif gain-hvcc gain-sample gain-xmp gain-tmap alternate-icc =
     record {
-      tiles = record { config = color-hvcc; lengths = color-lengths; bytes = color-samples };
-      alpha = record { config = alpha-hvcc; lengths = alpha-lengths; bytes = alpha-samples };
+      tiles = record { hvcc = color-hvcc; lengths = color-lengths; bytes = color-samples };
+      alpha = record { hvcc = alpha-hvcc; lengths = alpha-lengths; bytes = alpha-samples };
       icc = icc;
       exif = exif;
       gain-hvcc = gain-hvcc;

@@ -9,7 +9,7 @@ use Rattle.panel.specs.Items.{Form, shape}
 use Rattle.panel.specs.File.{file}
 use Rattle.panel.specs.Refusal.{bad-grid, bad-counts, bad-sum, bad-items, refusal}
 use Rattle.panel.specs.Answer.{refused, number, length-answer}
-use Rattle.places.specs.Roles.{Placed, Fit}
+use Rattle.places.specs.Roles.{Placed, Narrow-places}
 use Rattle.offsets.specs.Laid.{Laid}
 use Rattle.panel.specs.declared.Panel.{Panel as Numbers}
 use Rattle.panel.specs.declared.Shape.{Shape}
@@ -37,7 +37,7 @@ pub record Made-from (f : Form) (p : Panel) (m : FilePlan) : Type 0 where
   pub long : m .length ≡ length (file f p)
   pub laid : Laid f p (m .layout)
   pub placed : Placed p (m .places)
-  pub fit : Fit (m .places)
+  pub narrow : Narrow-places (m .places)
 
 abbrev pub Planned : Form → Panel → Plan → Type 0
 Planned f p (Refused r) = refused (number r) ≡ length-answer f p

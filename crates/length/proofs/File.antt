@@ -39,7 +39,7 @@ length-ftyp colour gain tone = simp (length-append, length-given) (omega (arith,
     brand false = refl
 
 pub length-head : (p : Panel) → length (head p .body) ≡ head-size p
-length-head p = length-ftyp (rext (p .tiles .config)) (gain-rext (p .gain)) (shape p .tone)
+length-head p = length-ftyp (rext (p .tiles .hvcc)) (gain-rext (p .gain)) (shape p .tone)
 
 -- ---- meta
 

@@ -67,7 +67,7 @@ clli-size light = 12 * cond (has light) 1 0
 
 -- hvcC, ispe, pixi, auxC and colr of the gain image
 abbrev pub image-properties-size : List ℕ → ℕ
-image-properties-size config = (8 + length config) + 20 + 14 + 52 + 19
+image-properties-size hvcc = (8 + length hvcc) + 20 + 14 + 52 + 19
 
 -- ispe, pixi and the alternate colours of the tone map, where there is one
 abbrev pub tone-properties-size : Option (List ℕ) → Option Colour → ℕ
@@ -75,13 +75,13 @@ tone-properties-size tone alternate = cond (has tone) (20 + 16 + alternates-size
 
 abbrev pub gain-properties-size : Option Gain → ℕ
 gain-properties-size none = 0
-gain-properties-size (some g) = image-properties-size (g .config) + tone-properties-size (g .tone) (g .alternate)
+gain-properties-size (some g) = image-properties-size (g .hvcc) + tone-properties-size (g .tone) (g .alternate)
 
 -- hvcC, two ispe, colr and pixi of the colour; hvcC, pixi and auxC of alpha; what is present of the second colr, irot, imir and clli
 abbrev pub ipco-size : Panel → ℕ
 ipco-size p =
-    (8 + length (p .tiles .config)) + 20 + 20 + first-colr-size (p .colour .cicp) (p .colour .icc) + 16
-    + (8 + length (p .alpha .config)) + 14 + 39
+    (8 + length (p .tiles .hvcc)) + 20 + 20 + first-colr-size (p .colour .cicp) (p .colour .icc) + 16
+    + (8 + length (p .alpha .hvcc)) + 14 + 39
     + second-colr-size (p .colour .cicp) (p .colour .icc)
     + irot-size (irot-steps (p .metadata .orientation)) + imir-size (imir-axis (p .metadata .orientation)) + clli-size (p .metadata .light)
     + gain-properties-size (p .gain)

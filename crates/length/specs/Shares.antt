@@ -25,7 +25,7 @@ pub data Extra : Type 0 where
   exif : (bytes : ℕ) → Extra
   icc-alone : (bytes : ℕ) → Extra
   icc-beside-cicp : (bytes : ℕ) → Extra
-  gain-map : (config sample xmp : ℕ) → Extra
+  gain-map : (hvcc sample xmp : ℕ) → Extra
   tone-map : (bytes : ℕ) → Extra
   alternate-cicp : Extra
   alternate-icc : (bytes : ℕ) → Extra
@@ -77,7 +77,7 @@ tone-extras (some t) alternate = tone-map (length t) ∷ alternate-extras altern
 
 abbrev pub gain-extras : Option Gain → List Extra
 gain-extras none = []
-gain-extras (some g) = gain-map (length (g .config)) (length (g .sample)) (length (g .xmp)) ∷ tone-extras (g .tone) (g .alternate)
+gain-extras (some g) = gain-map (length (g .hvcc)) (length (g .sample)) (length (g .xmp)) ∷ tone-extras (g .tone) (g .alternate)
 
 abbrev pub extras : Panel → List Extra
 extras p =
@@ -93,7 +93,7 @@ extras p =
 -- without any extra: two pictures of n tiles, their records and their samples, and the colour by code points
 abbrev pub bare : Panel → ℕ
 bare p =
-    461 + 89 * shape p .tiles + length (p .tiles .config) + length (p .alpha .config) + length (p .tiles .bytes) + length (p .alpha .bytes)
+    461 + 89 * shape p .tiles + length (p .tiles .hvcc) + length (p .alpha .hvcc) + length (p .tiles .bytes) + length (p .alpha .bytes)
 
 -- a profile alone stands in the place of the code points
 abbrev pub replaced-colr : Option Cicp → Option (List ℕ) → ℕ
@@ -108,4 +108,4 @@ replaced p = replaced-colr (p .colour .cicp) (p .colour .icc)
 abbrev pub meetings : Panel → ℕ
 meetings p =
     cond (has (p .gain)) (turn-count (p .metadata .orientation)) 0
-    + cond (gain-rext (p .gain) && not (rext (p .tiles .config))) 4 0
+    + cond (gain-rext (p .gain) && not (rext (p .tiles .hvcc))) 4 0

@@ -20,7 +20,7 @@ abbrev pub ftyp-size : Bool → Bool → Bool → ℕ
 ftyp-size colour gain tone = 20 + cond (gain && not colour) 4 0 + cond tone 4 0
 
 abbrev pub head-size : Panel → ℕ
-head-size p = ftyp-size (rext (p .tiles .config)) (gain-rext (p .gain)) (shape p .tone)
+head-size p = ftyp-size (rext (p .tiles .hvcc)) (gain-rext (p .gain)) (shape p .tone)
 
 -- ---- iloc and iinf: an entry for each item, as many as the last id
 

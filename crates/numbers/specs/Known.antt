@@ -16,8 +16,8 @@ known-if present known = not present || known
 abbrev pub cicp-known : CicpCodes → Bool
 cicp-known c = is-code Primaries (c .primaries) && is-code Transfer (c .transfer) && is-code Matrix (c .matrix) && is-code YesNo (c .«full_range»)
 
-abbrev pub color-known : ColorCodes → Bool
-color-known c = is-code YesNo (c .«has_cicp») && is-code YesNo (c .«has_icc») && known-if (eqb (c .«has_cicp») 1) (cicp-known (c .cicp))
+abbrev pub colour-known : ColorCodes → Bool
+colour-known c = is-code YesNo (c .«has_cicp») && is-code YesNo (c .«has_icc») && known-if (eqb (c .«has_cicp») 1) (cicp-known (c .cicp))
 
 abbrev pub gain-known : GainCodes → Bool
 gain-known g =
@@ -25,7 +25,7 @@ gain-known g =
     && is-code YesNo (g .«has_tmap»)
     && is-code YesNo (g .«has_alternate»)
     && cicp-known (g .cicp)
-    && known-if (eqb (g .«has_alternate») 1) (color-known (g .alternate))
+    && known-if (eqb (g .«has_alternate») 1) (colour-known (g .alternate))
 
 unfoldable pub panel-known : PanelCodes → Bool
 panel-known c =
@@ -34,5 +34,5 @@ panel-known c =
     && is-code YesNo (c .«has_light»)
     && is-code YesNo (c .«has_exif»)
     && is-code YesNo (c .«has_gain»)
-    && color-known (c .color)
+    && colour-known (c .color)
     && known-if (eqb (c .«has_gain») 1) (gain-known (c .gain))

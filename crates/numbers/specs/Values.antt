@@ -25,8 +25,8 @@ use Rattle.interface.specs.declared.PanelCodes.{PanelCodes}
 abbrev pub cicp-value : CicpCodes → Cicp
 cicp-value c = or (cicp-named (c .primaries) (c .transfer) (c .matrix) (c .«full_range»)) unspecified
 
-abbrev pub color-value : ColorCodes → ColorMetadata
-color-value c =
+abbrev pub colour-value : ColorCodes → ColorMetadata
+colour-value c =
     record {
       cicp = cond (eqb (c .«has_cicp») 1) (C.Some (cicp-value (c .cicp))) C.None;
       icc = part-if (eqb (c .«has_icc») 1);
@@ -40,7 +40,7 @@ gain-value g =
       «bit_depth» = or (depth-named (g .«bit_depth»)) Eight;
       cicp = cicp-value (g .cicp);
       tmap = part-if (eqb (g .«has_tmap») 1);
-      «alternate_color» = cond (eqb (g .«has_alternate») 1) (A.Some (color-value (g .alternate))) A.None;
+      «alternate_color» = cond (eqb (g .«has_alternate») 1) (A.Some (colour-value (g .alternate))) A.None;
     }
 
 abbrev pub metadata-value : PanelCodes → Metadata
@@ -56,7 +56,7 @@ panel-value c =
     record {
       dims = dims-value c;
       «bit_depth» = or (depth-named (c .«bit_depth»)) Eight;
-      «color_meta» = color-value (c .color);
+      «color_meta» = colour-value (c .color);
       metadata = metadata-value c;
       «gain_map» = cond (eqb (c .«has_gain») 1) (G.Some (gain-value (c .gain))) G.None;
     }

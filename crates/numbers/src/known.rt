@@ -1,6 +1,6 @@
 // Whether each code of a panel that is looked at stands for something, part by part. The codes of an absent part are not looked at.
 ghost use mathlib.Core.Path.{_≡_};
-ghost use Rattle.numbers.specs.Known.{known-if, cicp-known, color-known, gain-known, panel-known};
+ghost use Rattle.numbers.specs.Known.{known-if, cicp-known, colour-known, gain-known, panel-known};
 use codes::CodeKind;
 use codes::is_code;
 use interface::CicpCodes;
@@ -26,7 +26,7 @@ fn cicp_known(c: CicpCodes) -> bool
 }
 
 fn color_known(c: ColorCodes) -> bool
-    ensures { λ r. ⌜ r ≡ color-known c ⌝ }
+    ensures { λ r. ⌜ r ≡ colour-known c ⌝ }
 {
     let cicp = c.cicp;
     is_code(CodeKind::YesNo, c.has_cicp as u16)

@@ -1,6 +1,6 @@
 // The numbers that codes stand for, part by part. A part is there where its byte is 1.
 ghost use mathlib.Core.Path.{_≡_};
-ghost use Rattle.numbers.specs.Values.{cicp-value, color-value, gain-value, metadata-value, panel-value};
+ghost use Rattle.numbers.specs.Values.{cicp-value, colour-value, gain-value, metadata-value, panel-value};
 use codes::cicp_named;
 use codes::depth_named;
 use codes::optional::alternate_if;
@@ -34,7 +34,7 @@ fn cicp_value(c: CicpCodes) -> Cicp
 }
 
 fn color_value(c: ColorCodes) -> ColorMetadata
-    ensures { λ r. ⌜ r ≡ color-value c ⌝ }
+    ensures { λ r. ⌜ r ≡ colour-value c ⌝ }
 {
     let cicp = c.cicp;
     ColorMetadata {

@@ -38,7 +38,7 @@ pub record Laid (f : Form) (p : Panel) (y : Layout) : Type 0 where
   pub other-data : y .«other_data» ≡ data-at f p + length (p .tiles .bytes) + length (p .alpha .bytes)
   pub exif : y .exif ≡ exif-size (p .metadata .exif)
   pub gain : y .gain ≡ gain-lengths (p .gain)
-  pub color-rext : y .«color_rext» ≡ rext (p .tiles .config)
+  pub color-rext : y .«color_rext» ≡ rext (p .tiles .hvcc)
   pub gain-rext : y .«gain_rext» ≡ gain-rext (p .gain)
 
 -- ---- what a layout is made from
@@ -51,7 +51,7 @@ pub record Given (f : Form) (p : Panel) (z : Sizes) (s : Shape) (n c a : ℕ) (c
   pub grid : n ≡ length (descriptor (p .dims))
   pub colors : c ≡ length (p .tiles .bytes)
   pub alphas : a ≡ length (p .alpha .bytes)
-  pub color-rext : color ≡ rext (p .tiles .config)
+  pub color-rext : color ≡ rext (p .tiles .hvcc)
   pub gain-rext : gain ≡ gain-rext (p .gain)
 
 -- the boxes make a file, and mdat holds so many bytes of samples

@@ -20,7 +20,7 @@ put p c g = record { dims = p .dims; depth = p .depth; tiles = p .tiles; alpha =
 abbrev alter : Gain → Option (List ℕ) → Option Colour → Gain
 alter g t a =
     record {
-      config = g .config;
+      hvcc = g .hvcc;
       sample = g .sample;
       width = g .width;
       height = g .height;

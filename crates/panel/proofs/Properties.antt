@@ -54,7 +54,7 @@ gain-inj s d s′ d′ none none fg fh e p = refl
 gain-inj s d s′ d′ none (some h) fg fh e p = absurd (omega (arith, ap length e))
 gain-inj s d s′ d′ (some g) none fg fh e p = absurd (omega (arith, ap length e))
 gain-inj s d s′ d′ (some g) (some h) fg fh e p =
-    let c : g .config ≡ h .config = ap (body-at 0) e in
+    let c : g .hvcc ≡ h .hvcc = ap (body-at 0) e in
     let z = ispe-inj (fg .width) (fg .height) (fh .width) (fh .height) (ap (body-at 1) e) in
     let b = bits-inj (g .depth) (h .depth) (ap (depth-at 2) e) in
     let n = nclx-inj (g .cicp) (h .cicp) (ap (body-at 4) e) in
@@ -63,7 +63,7 @@ gain-inj s d s′ d′ (some g) (some h) fg fh e p =
     let l : listed (g .tone) ≡ listed (h .tone) = cc in
     let t = tone-inj s d s′ d′ (g .tone) (h .tone) (g .alternate) (h .alternate) (ap (drop 5) e) l in
     λ i. some (record {
-      config = c i;
+      hvcc = c i;
       sample = m i;
       width = z .0 i;
       height = z .1 i;
@@ -81,7 +81,7 @@ gain-props p = held (gain-slots (tone-ispe (p .dims) (p .metadata .orientation))
 
 gain-leads : (s d : Box) (g : Option Gain) → Leads "hvcC" (held (gain-slots s d g))
 gain-leads s d none = leads-none "hvcC"
-gain-leads s d (some g) = leads-first "hvcC" (g .config) _
+gain-leads s d (some g) = leads-first "hvcC" (g .hvcc) _
 
 -- the optional ones
 abbrev kinds : List String
@@ -99,8 +99,8 @@ option-at : ℕ → List (Option (List ℕ)) → Option (List ℕ)
 option-at n l = getD l n none
 
 pub record Same-fields (p q : Panel) : Type 0 where
-  pub config : p .tiles .config ≡ q .tiles .config
-  pub alpha-config : p .alpha .config ≡ q .alpha .config
+  pub hvcc : p .tiles .hvcc ≡ q .tiles .hvcc
+  pub alpha-config : p .alpha .hvcc ≡ q .alpha .hvcc
   pub tile : (p .dims .«tile_w» ≡ q .dims .«tile_w») × (p .dims .«tile_h» ≡ q .dims .«tile_h»)
   pub whole : (p .dims .«full_w» ≡ q .dims .«full_w») × (p .dims .«full_h» ≡ q .dims .«full_h»)
   pub depth : p .depth ≡ q .depth
@@ -115,7 +115,7 @@ same-fields p q fp fq e =
     let a = row-inj "hvcC" kinds (options p) (options q) (gain-props p) (gain-props q) tt (gain-leads _ _ (p .gain)) (gain-leads _ _ (q .gain)) refl refl (ap (drop 8) e) in
     let at : (n : ℕ) → option-at n (options p) ≡ option-at n (options q) = λ n. ap (option-at n) (a .0) in
     record {
-      config = ap (body-at 0) e;
+      hvcc = ap (body-at 0) e;
       alpha-config = ap (body-at 5) e;
       tile = ispe-inj (fp .tile-w) (fp .tile-h) (fq .tile-w) (fq .tile-h) (ap (body-at 1) e);
       whole = ispe-inj (fp .full-w) (fp .full-h) (fq .full-w) (fq .full-h) (ap (body-at 2) e);

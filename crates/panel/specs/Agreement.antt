@@ -35,7 +35,7 @@ abbrev pub norm-gain : Option Gain → Option Gain
 norm-gain none = none
 norm-gain (some g) =
     some (record {
-      config = g .config;
+      hvcc = g .hvcc;
       sample = g .sample;
       width = g .width;
       height = g .height;

@@ -19,11 +19,11 @@ use Rattle.panel.specs.declared.Shape.{Shape}
 
 -- 14496-15: the profile of a decoder configuration record stands in the low five bits of its second byte; 4 is the range extensions' (rext)
 abbrev pub rext : List ℕ → Bool
-rext config = eqb (getD config 1 0 % 32) 4
+rext hvcc = eqb (getD hvcc 1 0 % 32) 4
 
 abbrev pub gain-rext : Option Gain → Bool
 gain-rext none = false
-gain-rext (some g) = rext (g .config)
+gain-rext (some g) = rext (g .hvcc)
 
 -- 14496-12, 4.3: file type box; major brand, minor version 0, compatible brands. colour and gain: the record is rext
 abbrev pub ftyp : Bool → Bool → Bool → Box
@@ -65,7 +65,7 @@ meta f l p = full "meta" 0 0 (boxes (meta-boxes f l p))
 
 -- with the panel's brands
 abbrev pub head : Panel → Box
-head p = ftyp (rext (p .tiles .config)) (gain-rext (p .gain)) (shape p .tone)
+head p = ftyp (rext (p .tiles .hvcc)) (gain-rext (p .gain)) (shape p .tone)
 
 -- 14496-12, 8.1.1: media data box
 abbrev pub mdat : Panel → Box

@@ -88,7 +88,7 @@ tone-slots size depth (some t) alternate = (ispe-tone, size ∷ []) ∷ (pixi-to
 abbrev pub gain-slots : Box → Box → Option Gain → List (Role × List Box)
 gain-slots size depth none = []
 gain-slots size depth (some g) =
-    (hvcC-gain, box "hvcC" (g .config) ∷ [])
+    (hvcC-gain, box "hvcC" (g .hvcc) ∷ [])
     ∷ (ispe-gain, ispe (g .width) (g .height) ∷ [])
     ∷ (pixi-gain, pixi 1 (bits (g .depth)) ∷ [])
     ∷ (auxC-gain, auxC "urn:com:apple:photo:2020:aux:hdrgainmap" ∷ [])
@@ -97,12 +97,12 @@ gain-slots size depth (some g) =
 
 abbrev pub slots : Panel → List (Role × List Box)
 slots p =
-    (hvcC-colour, box "hvcC" (p .tiles .config) ∷ [])
+    (hvcC-colour, box "hvcC" (p .tiles .hvcc) ∷ [])
     ∷ (ispe-tile, ispe (p .dims .«tile_w») (p .dims .«tile_h») ∷ [])
     ∷ (ispe-whole, ispe (p .dims .«full_w») (p .dims .«full_h») ∷ [])
     ∷ (colr-first, box "colr" (first-colr (p .colour .cicp) (p .colour .icc)) ∷ [])
     ∷ (pixi-colour, pixi 3 (bits (p .depth)) ∷ [])
-    ∷ (hvcC-alpha, box "hvcC" (p .alpha .config) ∷ [])
+    ∷ (hvcC-alpha, box "hvcC" (p .alpha .hvcc) ∷ [])
     ∷ (pixi-alpha, pixi 1 (bits (p .depth)) ∷ [])
     ∷ (auxC-alpha, auxC "urn:mpeg:hevc:2015:auxid:1" ∷ [])
     ∷ (colr-second, optional "colr" (second-colr (p .colour .cicp) (p .colour .icc)))

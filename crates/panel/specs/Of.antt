@@ -54,7 +54,7 @@ abbrev pub gain-of : MaybeGainMap → Lent → Option Gain
 gain-of G.None l = none
 gain-of (G.Some g) l =
     some (record {
-      config = l .gain-hvcc;
+      hvcc = l .gain-hvcc;
       sample = l .gain-sample;
       width = g .width;
       height = g .height;

@@ -10,7 +10,7 @@ use Rattle.panel.specs.declared.metadata.Orientation.{Orientation}
 
 -- the tiles of one picture: their decoder configuration record, and their samples back to back with the length of each
 pub record Tiles : Type 0 where
-  pub config : List ℕ
+  pub hvcc : List ℕ
   pub lengths : List ℕ
   pub bytes : List ℕ
 
@@ -24,7 +24,7 @@ pub record Metadata : Type 0 where
   pub exif : Option (List ℕ)
 
 pub record Gain : Type 0 where
-  pub config : List ℕ
+  pub hvcc : List ℕ
   pub sample : List ℕ
   pub width : ℕ
   pub height : ℕ

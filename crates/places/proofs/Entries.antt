@@ -8,7 +8,7 @@ use Rattle.panel.specs.Items.{Form, given, gain-id, colour-grid, alpha-tile, al
 use Rattle.panel.specs.Ipma.{Association, _with_, each, essential, associations, association}
 use Rattle.panel.specs.declared.Shape.{Shape}
 use Rattle.boxes.specs.Runs.{places}
-use Rattle.places.specs.Lists.{image-list, tone-list, color-grid-list, alpha-grid-list, color-entries, alpha-entries}
+use Rattle.places.specs.Lists.{image-list, tone-list, colour-grid-list, alpha-grid-list, colour-entries, alpha-entries}
 use Rattle.places.specs.Roles.{its-of}
 use Rattle.places.specs.declared.Places.{Places}
 use Rattle.boxes.proofs.Pictures.{pictures-joined}
@@ -19,13 +19,13 @@ gain-entries s y =
     given (s .gain) ((gain-id s with image-list (y .image) (y .options .irot) (y .options .imir)) ∷ []) ‖ given (s .tone) ((gain-id s + 2 with tone-list (y .tone)) ∷ [])
 
 pub entries-joined : (f : Form) (s : Shape) (y : Places)
-    → flatMap (association f) (color-entries s (y .color) (y .options)) ++ (flatMap (association f) (alpha-entries s (y .color) (y .alpha) (y .options)) ++ flatMap (association f) (gain-entries s y))
+    → flatMap (association f) (colour-entries s (y .color) (y .options)) ++ (flatMap (association f) (alpha-entries s (y .color) (y .alpha) (y .options)) ++ flatMap (association f) (gain-entries s y))
     ≡ flatMap (association f) (associations s (its-of y))
 unfolding its-of
 entries-joined f s y =
     let c = y .color in
     let tiles = each 1 (s .tiles) (essential (places (c .hvcc)) ‖ essential (places (c .«ispe_tile»)) ‖ essential (places (c .colr))) in
     let alphas = each (alpha-tile s) (s .tiles) (essential (places (y .alpha .hvcc)) ‖ essential (places (c .«ispe_tile»))) in
-    ap (λ (r : List ℕ). flatMap (association f) (color-entries s (y .color) (y .options)) ++ r) (sym (flatMap-append (association f) (alpha-entries s (y .color) (y .alpha) (y .options)) (gain-entries s y)))
-    ∙ sym (flatMap-append (association f) (color-entries s (y .color) (y .options)) (alpha-entries s (y .color) (y .alpha) (y .options) ++ gain-entries s y))
-    ∙ ap (flatMap (association f)) (pictures-joined tiles alphas (gain-entries s y) (colour-grid s with color-grid-list c (y .options)) (alpha-grid s with alpha-grid-list c (y .alpha) (y .options)))
+    ap (λ (r : List ℕ). flatMap (association f) (colour-entries s (y .color) (y .options)) ++ r) (sym (flatMap-append (association f) (alpha-entries s (y .color) (y .alpha) (y .options)) (gain-entries s y)))
+    ∙ sym (flatMap-append (association f) (colour-entries s (y .color) (y .options)) (alpha-entries s (y .color) (y .alpha) (y .options) ++ gain-entries s y))
+    ∙ ap (flatMap (association f)) (pictures-joined tiles alphas (gain-entries s y) (colour-grid s with colour-grid-list c (y .options)) (alpha-grid s with alpha-grid-list c (y .alpha) (y .options)))

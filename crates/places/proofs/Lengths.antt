@@ -3,16 +3,16 @@ use mathlib.Core.Path.{_≡_}
 use lib.ListN.{length, length-append}
 use Rattle.boxes.specs.declared.association.Run.{Run}
 use Rattle.boxes.proofs.Marks.{length-places, length-essential}
-use Rattle.places.specs.Counts.{color-grid-count, alpha-grid-count, image-count, tone-count}
-use Rattle.places.specs.Lists.{color-grid-list, alpha-grid-list, image-list, tone-list}
+use Rattle.places.specs.Counts.{colour-grid-count, alpha-grid-count, image-count, tone-count}
+use Rattle.places.specs.Lists.{colour-grid-list, alpha-grid-list, image-list, tone-list}
 use Rattle.places.specs.declared.pictures.ColorPlaces.{ColorPlaces}
 use Rattle.places.specs.declared.pictures.AlphaPlaces.{AlphaPlaces}
 use Rattle.places.specs.declared.pictures.OptionPlaces.{OptionPlaces}
 use Rattle.gain_positions.specs.declared.ImagePlaces.{ImagePlaces}
 use Rattle.gain_positions.specs.declared.TonePlaces.{TonePlaces}
 
-pub length-color-grid-list : (c : ColorPlaces) (o : OptionPlaces) → length (color-grid-list c o) ≡ color-grid-count c o
-length-color-grid-list c o = simp (length-append, length-essential, length-places)
+pub length-colour-grid-list : (c : ColorPlaces) (o : OptionPlaces) → length (colour-grid-list c o) ≡ colour-grid-count c o
+length-colour-grid-list c o = simp (length-append, length-essential, length-places)
 
 pub length-alpha-grid-list : (c : ColorPlaces) (a : AlphaPlaces) (o : OptionPlaces) → length (alpha-grid-list c a o) ≡ alpha-grid-count c a o
 length-alpha-grid-list c a o = simp (length-append, length-essential, length-places)

@@ -17,7 +17,7 @@ use Rattle.panel.specs.declared.color.Cicp.{Cicp}
 use Rattle.panel.specs.declared.metadata.ContentLightLevel.{ContentLightLevel}
 use Rattle.length.specs.Properties.{second-colr-count, alternates-count, irot-count, imir-count}
 use Rattle.length.proofs.Properties.{length-optional}
-use Rattle.places.specs.Places.{Image-fits, Tone-fits, color-at, alpha-at, options-at, Color-fits, Alpha-fits, Options-fit}
+use Rattle.places.specs.Places.{Narrow-image, Narrow-tone, colour-at, alpha-at, options-at, Narrow-colour, Narrow-alpha, Narrow-options}
 use Rattle.gain_positions.specs.Positions.{image-at, tone-at, behind-image}
 use Rattle.gain_positions.specs.declared.ImagePlaces.{ImagePlaces}
 use Rattle.gain_positions.specs.declared.TonePlaces.{TonePlaces}
@@ -32,7 +32,7 @@ use Rattle.places.specs.declared.Places.{Places}
 abbrev pub laid : ℕ → ℕ → ℕ → ℕ → ℕ → ℕ → ℕ → Places
 laid c r m l g t a =
     let n = 9 + c + r + m + l in
-    record { color = color-at 1 1; alpha = alpha-at 6 1; options = options-at 9 c r m l; image = image-at n g; tone = tone-at (behind-image n g) t a; count = 8 + c + r + m + l + g + g + g + g + g + t + t + a }
+    record { color = colour-at 1 1; alpha = alpha-at 6 1; options = options-at 9 c r m l; image = image-at n g; tone = tone-at (behind-image n g) t a; count = 8 + c + r + m + l + g + g + g + g + g + t + t + a }
 
 -- how many boxes the definition has of each
 abbrev pub second-colrs : Panel → ℕ
@@ -184,8 +184,8 @@ placed-of p s y hs hy =
 
 -- ---- they fit
 
-pub color-fits : {y : ColorPlaces} → y ≡ color-at 1 1 → Color-fits y
-color-fits e =
+pub narrow-colour : {y : ColorPlaces} → y ≡ colour-at 1 1 → Narrow-colour y
+narrow-colour e =
     rw e (record {
       hvcc = record { most = omega arith; few = omega arith };
       tile = record { most = omega arith; few = omega arith };
@@ -194,16 +194,16 @@ color-fits e =
       pixi = record { most = omega arith; few = omega arith };
     })
 
-pub alpha-fits : {y : AlphaPlaces} → y ≡ alpha-at 6 1 → Alpha-fits y
-alpha-fits e =
+pub narrow-alpha : {y : AlphaPlaces} → y ≡ alpha-at 6 1 → Narrow-alpha y
+narrow-alpha e =
     rw e (record {
       hvcc = record { most = omega arith; few = omega arith };
       pixi = record { most = omega arith; few = omega arith };
       auxc = record { most = omega arith; few = omega arith };
     })
 
-pub options-fit : {y : OptionPlaces} {n c r m l : ℕ} → y ≡ options-at n c r m l → n + 4 ≤ 127 → c ≤ 1 → r ≤ 1 → m ≤ 1 → l ≤ 1 → Options-fit y
-options-fit e hn hc hr hm hl =
+pub narrow-options : {y : OptionPlaces} {n c r m l : ℕ} → y ≡ options-at n c r m l → n + 4 ≤ 127 → c ≤ 1 → r ≤ 1 → m ≤ 1 → l ≤ 1 → Narrow-options y
+narrow-options e hn hc hr hm hl =
     rw e (record {
       colr = record { most = omega (arith, hn, hc); few = omega (arith, hc) };
       irot = record { most = omega (arith, hn, hc, hr); few = omega (arith, hr) };
@@ -211,8 +211,8 @@ options-fit e hn hc hr hm hl =
       clli = record { most = omega (arith, hn, hc, hr, hm, hl); few = omega (arith, hl) };
     })
 
-pub image-fits : {y : ImagePlaces} {n k : ℕ} → y ≡ image-at n k → n + 5 ≤ 127 → k ≤ 1 → Image-fits y
-image-fits e hn hk =
+pub narrow-image : {y : ImagePlaces} {n k : ℕ} → y ≡ image-at n k → n + 5 ≤ 127 → k ≤ 1 → Narrow-image y
+narrow-image e hn hk =
     rw e (record {
       hvcc = record { most = omega (arith, hn, hk); few = omega (arith, hk) };
       ispe = record { most = omega (arith, hn, hk); few = omega (arith, hk) };
@@ -221,8 +221,8 @@ image-fits e hn hk =
       colr = record { most = omega (arith, hn, hk); few = omega (arith, hk) };
     })
 
-pub tone-fits : {y : TonePlaces} {n k a : ℕ} → y ≡ tone-at n k a → n + 4 ≤ 127 → k ≤ 1 → a ≤ 2 → Tone-fits y
-tone-fits e hn hk ha =
+pub narrow-tone : {y : TonePlaces} {n k a : ℕ} → y ≡ tone-at n k a → n + 4 ≤ 127 → k ≤ 1 → a ≤ 2 → Narrow-tone y
+narrow-tone e hn hk ha =
     rw e (record {
       ispe = record { most = omega (arith, hn, hk); few = omega (arith, hk) };
       pixi = record { most = omega (arith, hn, hk); few = omega (arith, hk) };

@@ -20,10 +20,10 @@ use Rattle.length.proofs.Properties.{length-ipma}
 use Rattle.boxes.specs.Runs.{places}
 use Rattle.boxes.proofs.Marks.{length-essential}
 use Rattle.places.specs.Counts.{ipma-bytes}
-use Rattle.places.specs.Lists.{color-grid-list, alpha-grid-list, image-list, tone-list, color-entries, alpha-entries}
+use Rattle.places.specs.Lists.{colour-grid-list, alpha-grid-list, image-list, tone-list, colour-entries, alpha-entries}
 use Rattle.places.specs.Roles.{its-of, Placed}
 use Rattle.places.specs.declared.Places.{Places}
-use Rattle.places.proofs.Lengths.{length-color-grid-list, length-alpha-grid-list, length-image-list, length-tone-list}
+use Rattle.places.proofs.Lengths.{length-colour-grid-list, length-alpha-grid-list, length-image-list, length-tone-list}
 use Rattle.places.proofs.Entries.{gain-entries, entries-joined}
 
 long-one : (f : Form) (id : ℕ) (l : List ℕ) {k : ℕ} → length l ≡ k → length (association f (id with l)) ≡ f .id + 1 + k
@@ -55,9 +55,9 @@ ipma-long f s z =
     let c = z .color in
     let a = z .alpha in
     let o = z .options in
-    let colors = long-both f (each 1 (s .tiles) (essential (places (c .hvcc)) ‖ essential (places (c .«ispe_tile»)) ‖ essential (places (c .colr)))) ((colour-grid s with color-grid-list c o) ∷ [])
+    let colors = long-both f (each 1 (s .tiles) (essential (places (c .hvcc)) ‖ essential (places (c .«ispe_tile»)) ‖ essential (places (c .colr)))) ((colour-grid s with colour-grid-list c o) ∷ [])
     (long-each f 1 (s .tiles) (essential (places (c .hvcc)) ‖ essential (places (c .«ispe_tile»)) ‖ essential (places (c .colr))) {k = c .hvcc .count + (c .«ispe_tile» .count + c .colr .count)} (simp (length-append, length-essential)))
-    (long-last f (colour-grid s) (color-grid-list c o) (length-color-grid-list c o)) in
+    (long-last f (colour-grid s) (colour-grid-list c o) (length-colour-grid-list c o)) in
     let alphas = long-both f (each (alpha-tile s) (s .tiles) (essential (places (a .hvcc)) ‖ essential (places (c .«ispe_tile»)))) ((alpha-grid s with alpha-grid-list c a o) ∷ [])
     (long-each f (alpha-tile s) (s .tiles) (essential (places (a .hvcc)) ‖ essential (places (c .«ispe_tile»))) {k = a .hvcc .count + c .«ispe_tile» .count} (simp (length-append, length-essential)))
     (long-last f (alpha-grid s) (alpha-grid-list c a o) (length-alpha-grid-list c a o)) in
@@ -65,7 +65,7 @@ ipma-long f s z =
     let gains = long-both f (given (s .gain) ((gain-id s with image) ∷ [])) (given (s .tone) ((gain-id s + 2 with tone-list (z .tone)) ∷ []))
     (long-given f (s .gain) (gain-id s) image (length-image-list (z .image) (o .irot) (o .imir)))
     (long-given f (s .tone) (gain-id s + 2) (tone-list (z .tone)) (length-tone-list (z .tone))) in
-    let x = flatMap (association f) (color-entries s c o) in
+    let x = flatMap (association f) (colour-entries s c o) in
     let y = flatMap (association f) (alpha-entries s c a o) in
     let w = flatMap (association f) (gain-entries s z) in
     let joined : length x + (length y + length w) ≡ length (flatMap (association f) (associations s (its-of z)))

@@ -15,8 +15,8 @@ use Rattle.places.specs.declared.Places.{Places}
 abbrev pub option-count : OptionPlaces → ℕ
 option-count o = o .colr .count + (o .clli .count + (o .irot .count + o .imir .count))
 
-abbrev pub color-grid-count : ColorPlaces → OptionPlaces → ℕ
-color-grid-count c o = c .«ispe_full» .count + (c .colr .count + (c .pixi .count + option-count o))
+abbrev pub colour-grid-count : ColorPlaces → OptionPlaces → ℕ
+colour-grid-count c o = c .«ispe_full» .count + (c .colr .count + (c .pixi .count + option-count o))
 
 -- with the colour picture's ispe, and of the properties that may be absent the transforms alone
 abbrev pub alpha-grid-count : ColorPlaces → AlphaPlaces → OptionPlaces → ℕ
@@ -30,8 +30,8 @@ tone-count p = p .ispe .count + (p .pixi .count + p .colr .count)
 
 -- ---- the entries of each picture: its tiles, then its grid
 
-abbrev pub color-entries-size : Form → Shape → ColorPlaces → OptionPlaces → ℕ
-color-entries-size f s c o = (f .id + 1 + (c .hvcc .count + (c .«ispe_tile» .count + c .colr .count))) * s .tiles + (f .id + 1 + color-grid-count c o)
+abbrev pub colour-entries-size : Form → Shape → ColorPlaces → OptionPlaces → ℕ
+colour-entries-size f s c o = (f .id + 1 + (c .hvcc .count + (c .«ispe_tile» .count + c .colr .count))) * s .tiles + (f .id + 1 + colour-grid-count c o)
 
 abbrev pub alpha-entries-size : Form → Shape → ColorPlaces → AlphaPlaces → OptionPlaces → ℕ
 alpha-entries-size f s c a o = (f .id + 1 + (a .hvcc .count + c .«ispe_tile» .count)) * s .tiles + (f .id + 1 + alpha-grid-count c a o)
@@ -39,6 +39,6 @@ alpha-entries-size f s c a o = (f .id + 1 + (a .hvcc .count + c .«ispe_tile» .
 -- how many bytes ipma takes
 abbrev pub ipma-bytes : Form → Shape → Places → ℕ
 ipma-bytes f s y =
-    16 + (color-entries-size f s (y .color) (y .options)
+    16 + (colour-entries-size f s (y .color) (y .options)
     + (alpha-entries-size f s (y .color) (y .alpha) (y .options)
     + (cond (s .gain) (f .id + 1 + image-count (y .image) (y .options .irot) (y .options .imir)) 0 + cond (s .tone) (f .id + 1 + tone-count (y .tone)) 0)))

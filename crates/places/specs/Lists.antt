@@ -19,8 +19,8 @@ use Rattle.gain_positions.specs.declared.TonePlaces.{TonePlaces}
 abbrev pub option-list : OptionPlaces → List ℕ
 option-list o = places (o .colr) ‖ places (o .clli) ‖ essential (places (o .irot)) ‖ essential (places (o .imir))
 
-abbrev pub color-grid-list : ColorPlaces → OptionPlaces → List ℕ
-color-grid-list c o = places (c .«ispe_full») ‖ essential (places (c .colr)) ‖ places (c .pixi) ‖ option-list o
+abbrev pub colour-grid-list : ColorPlaces → OptionPlaces → List ℕ
+colour-grid-list c o = places (c .«ispe_full») ‖ essential (places (c .colr)) ‖ places (c .pixi) ‖ option-list o
 
 -- with the colour picture's ispe, and of the properties that may be absent the transforms alone
 abbrev pub alpha-grid-list : ColorPlaces → AlphaPlaces → OptionPlaces → List ℕ
@@ -35,9 +35,9 @@ tone-list p = places (p .ispe) ‖ places (p .pixi) ‖ places (p .colr)
 
 -- ---- the entries of each picture: its tiles, then its grid
 
-abbrev pub color-entries : Shape → ColorPlaces → OptionPlaces → List Association
-color-entries s c o =
-    each 1 (s .tiles) (essential (places (c .hvcc)) ‖ essential (places (c .«ispe_tile»)) ‖ essential (places (c .colr))) ‖ (colour-grid s with color-grid-list c o) ∷ []
+abbrev pub colour-entries : Shape → ColorPlaces → OptionPlaces → List Association
+colour-entries s c o =
+    each 1 (s .tiles) (essential (places (c .hvcc)) ‖ essential (places (c .«ispe_tile»)) ‖ essential (places (c .colr))) ‖ (colour-grid s with colour-grid-list c o) ∷ []
 
 abbrev pub alpha-entries : Shape → ColorPlaces → AlphaPlaces → OptionPlaces → List Association
 alpha-entries s c a o =

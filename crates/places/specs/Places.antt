@@ -1,6 +1,6 @@
 -- The positions of all properties, run by run: one behind the other.
 use Prim.Native.Nat.{ℕ, _+_}
-use Rattle.boxes.specs.Runs.{Fitting}
+use Rattle.boxes.specs.Runs.{Narrow}
 use Rattle.places.specs.declared.pictures.ColorPlaces.{ColorPlaces}
 use Rattle.places.specs.declared.pictures.AlphaPlaces.{AlphaPlaces}
 use Rattle.places.specs.declared.pictures.OptionPlaces.{OptionPlaces}
@@ -12,8 +12,8 @@ use Rattle.gain_positions.specs.declared.TonePlaces.{TonePlaces}
 -- ---- the panel's own properties
 
 -- from n on, with k boxes of each kind
-abbrev pub color-at : ℕ → ℕ → ColorPlaces
-color-at n k =
+abbrev pub colour-at : ℕ → ℕ → ColorPlaces
+colour-at n k =
     record { hvcc = run-at n k; «ispe_tile» = run-at (n + k) k; «ispe_full» = run-at (n + k + k) k; colr = run-at (n + k + k + k) k; pixi = run-at (n + k + k + k + k) k }
 
 abbrev pub alpha-at : ℕ → ℕ → AlphaPlaces
@@ -23,23 +23,23 @@ abbrev pub options-at : ℕ → ℕ → ℕ → ℕ → ℕ → OptionPlaces
 options-at n colr irot imir clli =
     record { colr = run-at n colr; irot = run-at (n + colr) irot; imir = run-at (n + colr + irot) imir; clli = run-at (n + colr + irot + imir) clli }
 
-pub record Color-fits (c : ColorPlaces) : Type 0 where
-  pub hvcc : Fitting (c .hvcc)
-  pub tile : Fitting (c .«ispe_tile»)
-  pub full : Fitting (c .«ispe_full»)
-  pub colr : Fitting (c .colr)
-  pub pixi : Fitting (c .pixi)
+pub record Narrow-colour (c : ColorPlaces) : Type 0 where
+  pub hvcc : Narrow (c .hvcc)
+  pub tile : Narrow (c .«ispe_tile»)
+  pub full : Narrow (c .«ispe_full»)
+  pub colr : Narrow (c .colr)
+  pub pixi : Narrow (c .pixi)
 
-pub record Alpha-fits (c : AlphaPlaces) : Type 0 where
-  pub hvcc : Fitting (c .hvcc)
-  pub pixi : Fitting (c .pixi)
-  pub auxc : Fitting (c .auxc)
+pub record Narrow-alpha (c : AlphaPlaces) : Type 0 where
+  pub hvcc : Narrow (c .hvcc)
+  pub pixi : Narrow (c .pixi)
+  pub auxc : Narrow (c .auxc)
 
-pub record Options-fit (o : OptionPlaces) : Type 0 where
-  pub colr : Fitting (o .colr)
-  pub irot : Fitting (o .irot)
-  pub imir : Fitting (o .imir)
-  pub clli : Fitting (o .clli)
+pub record Narrow-options (o : OptionPlaces) : Type 0 where
+  pub colr : Narrow (o .colr)
+  pub irot : Narrow (o .irot)
+  pub imir : Narrow (o .imir)
+  pub clli : Narrow (o .clli)
 
 -- ---- the gain map's
 
@@ -51,14 +51,14 @@ gain-at n image tone alternates = record { image = image-at n image; tone = tone
 abbrev pub behind-gain : ℕ → ℕ → ℕ → ℕ → ℕ
 behind-gain n image tone alternates = behind-tone (behind-image n image) tone alternates
 
-pub record Image-fits (p : ImagePlaces) : Type 0 where
-  pub hvcc : Fitting (p .hvcc)
-  pub ispe : Fitting (p .ispe)
-  pub pixi : Fitting (p .pixi)
-  pub auxc : Fitting (p .auxc)
-  pub colr : Fitting (p .colr)
+pub record Narrow-image (p : ImagePlaces) : Type 0 where
+  pub hvcc : Narrow (p .hvcc)
+  pub ispe : Narrow (p .ispe)
+  pub pixi : Narrow (p .pixi)
+  pub auxc : Narrow (p .auxc)
+  pub colr : Narrow (p .colr)
 
-pub record Tone-fits (p : TonePlaces) : Type 0 where
-  pub ispe : Fitting (p .ispe)
-  pub pixi : Fitting (p .pixi)
-  pub colr : Fitting (p .colr)
+pub record Narrow-tone (p : TonePlaces) : Type 0 where
+  pub ispe : Narrow (p .ispe)
+  pub pixi : Narrow (p .pixi)
+  pub colr : Narrow (p .colr)

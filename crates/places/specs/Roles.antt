@@ -7,7 +7,7 @@ use Rattle.panel.specs.Panel.{Panel}
 use Rattle.panel.specs.Ipco
 use Rattle.panel.specs.Ipma.{positions}
 use Rattle.boxes.specs.Runs.{places}
-use Rattle.places.specs.Places.{Color-fits, Alpha-fits, Options-fit, Image-fits, Tone-fits}
+use Rattle.places.specs.Places.{Narrow-colour, Narrow-alpha, Narrow-options, Narrow-image, Narrow-tone}
 use Rattle.places.specs.declared.Places.{Places}
 
 unfoldable pub its-of : Places → Ipco.Role → List ℕ
@@ -38,10 +38,10 @@ pub record Placed (p : Panel) (y : Places) : Type 0 where
   pub role : (r : Ipco.Role) → its-of y r ≡ positions 1 (Ipco.slots p) r
 
 -- each leaves the highest bit free
-pub record Fit (y : Places) : Type 0 where
+pub record Narrow-places (y : Places) : Type 0 where
   pub count : y .count ≤ 127
-  pub color : Color-fits (y .color)
-  pub alpha : Alpha-fits (y .alpha)
-  pub options : Options-fit (y .options)
-  pub image : Image-fits (y .image)
-  pub tone : Tone-fits (y .tone)
+  pub color : Narrow-colour (y .color)
+  pub alpha : Narrow-alpha (y .alpha)
+  pub options : Narrow-options (y .options)
+  pub image : Narrow-image (y .image)
+  pub tone : Narrow-tone (y .tone)

@@ -1,11 +1,11 @@
 // How many properties each item is associated with, and how many bytes ipma takes for them.
 ghost use mathlib.Core.Path.{_≡_};
 ghost use Prim.Native.Nat.{_+_, _*_, _≤_};
-ghost use Rattle.places.specs.Counts.{color-grid-count, alpha-grid-count, image-count, tone-count, color-entries-size, alpha-entries-size, ipma-bytes};
-ghost use Rattle.places.specs.Roles.{Fit};
+ghost use Rattle.places.specs.Counts.{colour-grid-count, alpha-grid-count, image-count, tone-count, colour-entries-size, alpha-entries-size, ipma-bytes};
+ghost use Rattle.places.specs.Roles.{Narrow-places};
 ghost use Rattle.panel.specs.Forms.{form-of};
-ghost use Rattle.boxes.specs.Runs.{Fitting};
-ghost use Rattle.places.specs.Places.{Color-fits, Alpha-fits, Options-fit, Image-fits, Tone-fits};
+ghost use Rattle.boxes.specs.Runs.{Narrow};
+ghost use Rattle.places.specs.Places.{Narrow-colour, Narrow-alpha, Narrow-options, Narrow-image, Narrow-tone};
 use crate::Places;
 use crate::pictures::AlphaPlaces;
 use crate::pictures::ColorPlaces;
@@ -20,9 +20,9 @@ use panel::Shape;
 
 // How many associations the colour grid has.
 pub fn color_grid_count(c: ColorPlaces, o: OptionPlaces) -> u8
-    requires { ⌜ Color-fits c ⌝ }
-    requires { ⌜ Options-fit o ⌝ }
-    ensures { λ r. ⌜ r ≡ color-grid-count c o ⌝ }
+    requires { ⌜ Narrow-colour c ⌝ }
+    requires { ⌜ Narrow-options o ⌝ }
+    ensures { λ r. ⌜ r ≡ colour-grid-count c o ⌝ }
     ensures { λ r. ⌜ r ≤ 14 ⌝ }
 {
     let full = c.ispe_full;
@@ -38,9 +38,9 @@ pub fn color_grid_count(c: ColorPlaces, o: OptionPlaces) -> u8
 
 // How many associations the alpha grid has.
 pub fn alpha_grid_count(c: ColorPlaces, a: AlphaPlaces, o: OptionPlaces) -> u8
-    requires { ⌜ Color-fits c ⌝ }
-    requires { ⌜ Alpha-fits a ⌝ }
-    requires { ⌜ Options-fit o ⌝ }
+    requires { ⌜ Narrow-colour c ⌝ }
+    requires { ⌜ Narrow-alpha a ⌝ }
+    requires { ⌜ Narrow-options o ⌝ }
     ensures { λ r. ⌜ r ≡ alpha-grid-count c a o ⌝ }
     ensures { λ r. ⌜ r ≤ 14 ⌝ }
 {
@@ -54,9 +54,9 @@ pub fn alpha_grid_count(c: ColorPlaces, a: AlphaPlaces, o: OptionPlaces) -> u8
 
 // How many associations the gain image has.
 pub fn image_count(p: ImagePlaces, irot: Run, imir: Run) -> u8
-    requires { ⌜ Image-fits p ⌝ }
-    requires { ⌜ Fitting irot ⌝ }
-    requires { ⌜ Fitting imir ⌝ }
+    requires { ⌜ Narrow-image p ⌝ }
+    requires { ⌜ Narrow irot ⌝ }
+    requires { ⌜ Narrow imir ⌝ }
     ensures { λ r. ⌜ r ≡ image-count p irot imir ⌝ }
 {
     let hvcc = p.hvcc;
@@ -70,7 +70,7 @@ pub fn image_count(p: ImagePlaces, irot: Run, imir: Run) -> u8
 
 // How many associations the tone map has.
 pub fn tone_count(p: TonePlaces) -> u8
-    requires { ⌜ Tone-fits p ⌝ }
+    requires { ⌜ Narrow-tone p ⌝ }
     ensures { λ r. ⌜ r ≡ tone-count p ⌝ }
 {
     let ispe = p.ispe;
@@ -93,9 +93,9 @@ fn entries_size(form: FileForm, n: u32, tile: u8, grid: u8) -> u32
 // Those of the colour picture.
 fn color_entries_size(form: FileForm, s: Shape, c: ColorPlaces, o: OptionPlaces) -> u32
     requires { ⌜ s .tiles ≤ 65536 ⌝ }
-    requires { ⌜ Color-fits c ⌝ }
-    requires { ⌜ Options-fit o ⌝ }
-    ensures { λ r. ⌜ r ≡ color-entries-size (form-of form) s c o ⌝ }
+    requires { ⌜ Narrow-colour c ⌝ }
+    requires { ⌜ Narrow-options o ⌝ }
+    ensures { λ r. ⌜ r ≡ colour-entries-size (form-of form) s c o ⌝ }
     ensures { λ r. ⌜ r ≤ 730000 ⌝ }
 {
     let hvcc = c.hvcc;
@@ -115,9 +115,9 @@ fn alpha_entries_size(
     o: OptionPlaces,
 ) -> u32
     requires { ⌜ s .tiles ≤ 65536 ⌝ }
-    requires { ⌜ Color-fits c ⌝ }
-    requires { ⌜ Alpha-fits a ⌝ }
-    requires { ⌜ Options-fit o ⌝ }
+    requires { ⌜ Narrow-colour c ⌝ }
+    requires { ⌜ Narrow-alpha a ⌝ }
+    requires { ⌜ Narrow-options o ⌝ }
     ensures { λ r. ⌜ r ≡ alpha-entries-size (form-of form) s c a o ⌝ }
     ensures { λ r. ⌜ r ≤ 730000 ⌝ }
 {
@@ -131,7 +131,7 @@ fn alpha_entries_size(
 // ipma, the whole box.
 pub fn ipma_bytes(form: FileForm, s: Shape, y: Places) -> u32
     requires { ⌜ s .tiles ≤ 65536 ⌝ }
-    requires { ⌜ Fit y ⌝ }
+    requires { ⌜ Narrow-places y ⌝ }
     ensures { λ r. ⌜ r ≡ ipma-bytes (form-of form) s y ⌝ }
     ensures { λ r. ⌜ r ≤ 1500000 ⌝ }
 {

@@ -12,8 +12,8 @@ ghost use Prim.Native.Nat.{ℕ, _+_, _≤_};
 ghost use Rattle.panel.specs.Items.{has, shape};
 ghost use Rattle.length.specs.Properties.{second-colr-count, alternates-count, irot-count, imir-count};
 ghost use Rattle.places.specs.Alternates.{toned-alternates};
-ghost use Rattle.places.specs.Roles.{Placed, Fit};
-ghost use Rattle.places.specs.Places.{options-at, Options-fit, gain-at, behind-gain, Image-fits, Tone-fits};
+ghost use Rattle.places.specs.Roles.{Placed, Narrow-places};
+ghost use Rattle.places.specs.Places.{options-at, Narrow-options, gain-at, behind-gain, Narrow-image, Narrow-tone};
 ghost use Rattle.panel.specs.Of.{Lent, panel-of, part, cicp-of, light-of, alternate-of, gain-of};
 use crate::counts::alternate_count;
 use crate::counts::imir_count;
@@ -80,7 +80,7 @@ fn gain_alternates(gain: MaybeGainMap) -> u32
 fn panel_options(panel: Panel, positions: Positions) -> PlacedOptions
     requires { ⌜ positions .next .0 + 4 ≤ 127 ⌝ }
     ensures { λ r. ⌜ ((x : List ℕ) → (r .places ≡ options-at (positions .next .0) (second-colr-count (cicp-of (panel .«color_meta» .cicp)) (part (panel .«color_meta» .icc) x)) (irot-count (panel .metadata .orientation)) (imir-count (panel .metadata .orientation)) (cond (has (light-of (panel .metadata .«content_light_level»))) 1 0)) × (r .positions .next .0 ≡ positions .next .0 + second-colr-count (cicp-of (panel .«color_meta» .cicp)) (part (panel .«color_meta» .icc) x) + irot-count (panel .metadata .orientation) + imir-count (panel .metadata .orientation) + cond (has (light-of (panel .metadata .«content_light_level»))) 1 0)) ⌝ }
-    ensures { λ r. ⌜ Options-fit (r .places) ⌝ }
+    ensures { λ r. ⌜ Narrow-options (r .places) ⌝ }
     ensures { λ r. ⌜ r .positions .next .0 ≤ positions .next .0 + 4 ⌝ }
 {
     let color = panel.color_meta;
@@ -98,8 +98,8 @@ fn panel_options(panel: Panel, positions: Positions) -> PlacedOptions
 fn panel_gain(gain: MaybeGainMap, s: Shape, positions: Positions) -> PlacedGain
     requires { ⌜ positions .next .0 + 9 ≤ 127 ⌝ }
     ensures { λ r. ⌜ ((l : Lent) → (r .places ≡ gain-at (positions .next .0) (cond (s .gain) 1 0) (cond (s .tone) 1 0) (toned-alternates (gain-of gain l))) × (r .positions .next .0 ≡ behind-gain (positions .next .0) (cond (s .gain) 1 0) (cond (s .tone) 1 0) (toned-alternates (gain-of gain l)))) ⌝ }
-    ensures { λ r. ⌜ Image-fits (r .places .image) ⌝ }
-    ensures { λ r. ⌜ Tone-fits (r .places .tone) ⌝ }
+    ensures { λ r. ⌜ Narrow-image (r .places .image) ⌝ }
+    ensures { λ r. ⌜ Narrow-tone (r .places .tone) ⌝ }
     ensures { λ r. ⌜ positions .next .0 ≤ r .positions .next .0 ⌝ }
     ensures { λ r. ⌜ r .positions .next .0 ≤ positions .next .0 + 9 ⌝ }
 {
@@ -113,7 +113,7 @@ fn panel_gain(gain: MaybeGainMap, s: Shape, positions: Positions) -> PlacedGain
 // and says at the end how many there are.
 pub fn places_of(panel: Panel, s: Shape) -> Places
     ensures { λ r. ⌜ ((l : Lent) → s ≡ shape (panel-of panel l) → Placed (panel-of panel l) r) ⌝ }
-    ensures { λ r. ⌜ Fit r ⌝ }
+    ensures { λ r. ⌜ Narrow-places r ⌝ }
 {
     let gain = panel.gain_map;
     let color = color_places(

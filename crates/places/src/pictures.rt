@@ -1,7 +1,7 @@
 // The positions of the properties of the colour picture and the alpha picture, and of those that may be absent.
 ghost use mathlib.Core.Path.{_≡_};
 ghost use Prim.Native.Nat.{_+_, _*_, _≤_};
-ghost use Rattle.places.specs.Places.{color-at, alpha-at, options-at};
+ghost use Rattle.places.specs.Places.{colour-at, alpha-at, options-at};
 use boxes::association::Run;
 use gain_positions::Positions;
 use panel::PropertyPosition;
@@ -49,7 +49,7 @@ pub struct PlacedOptions {
 pub fn color_places(positions: Positions, k: u8) -> PlacedColor
     requires { ⌜ positions .next .0 + 5 * k ≤ 127 ⌝ }
     requires { ⌜ k ≤ 1 ⌝ }
-    ensures { λ r. ⌜ (r .places ≡ color-at (positions .next .0) k) × (r .positions .next .0 ≡ positions .next .0 + k + k + k + k + k) ⌝ }
+    ensures { λ r. ⌜ (r .places ≡ colour-at (positions .next .0) k) × (r .positions .next .0 ≡ positions .next .0 + k + k + k + k + k) ⌝ }
 {
     let a = positions.next;
     let b = PropertyPosition(a.0 + k);

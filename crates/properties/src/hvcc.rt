@@ -9,11 +9,11 @@ use octets::size_of;
 use octets::write_box;
 
 // hvcC: a decoder configuration record.
-pub fn write_hvcc(out: &mut [u8], at: usize, config: &[u8]) -> usize
-    requires { ⌜ at + (8 + length (now config)) ≤ length (now out) ⌝ }
-    requires { ⌜ 8 + length (now config) < 4294967296 ⌝ }
-    ensures { λ r. ⌜ Boxed (now (out .entry)) at (8 + length (now (config .entry))) (box "hvcC" (now (config .entry)) ∷ []) (now (out .exit)) r ⌝ }
+pub fn write_hvcc(out: &mut [u8], at: usize, hvcc: &[u8]) -> usize
+    requires { ⌜ at + (8 + length (now hvcc)) ≤ length (now out) ⌝ }
+    requires { ⌜ 8 + length (now hvcc) < 4294967296 ⌝ }
+    ensures { λ r. ⌜ Boxed (now (out .entry)) at (8 + length (now (hvcc .entry))) (box "hvcC" (now (hvcc .entry)) ∷ []) (now (out .exit)) r ⌝ }
 {
-    let a = write_box(out, at, size_of(8, config.len()), b"hvcC");
-    put(out, a, config)
+    let a = write_box(out, at, size_of(8, hvcc.len()), b"hvcC");
+    put(out, a, hvcc)
 }

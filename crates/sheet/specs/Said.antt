@@ -25,20 +25,20 @@ start = record { at = 0; refusal = 0 }
 abbrev pub pictures-of : List ℕ → PictureSpans → List ℕ → List ℕ → Pictures
 pictures-of s p color alpha =
     record {
-      colour = record { config = span-of s (p .«color_hvcc»); lengths = take (p .«color_count») color; bytes = span-of s (p .«color_samples») };
-      alpha = record { config = span-of s (p .«alpha_hvcc»); lengths = take (p .«alpha_count») alpha; bytes = span-of s (p .«alpha_samples») };
+      colour = record { hvcc = span-of s (p .«color_hvcc»); lengths = take (p .«color_count») color; bytes = span-of s (p .«color_samples») };
+      alpha = record { hvcc = span-of s (p .«alpha_hvcc»); lengths = take (p .«alpha_count») alpha; bytes = span-of s (p .«alpha_samples») };
     }
 
 abbrev pub metadata-of : List ℕ → MetadataRead → Metadata
 metadata-of s r = record { orientation = r .metadata .orientation; light = light-of (r .metadata .«content_light_level»); exif = part (r .metadata .exif) (span-of s (r .exif)) }
 
 abbrev pub image-of : List ℕ → ImageRead → Gain
-image-of s r = record { config = span-of s (r .hvcc); sample = span-of s (r .sample); width = r .width; height = r .height; depth = r .«bit_depth»; cicp = r .cicp; xmp = span-of s (r .xmp); tone = none; alternate = none }
+image-of s r = record { hvcc = span-of s (r .hvcc); sample = span-of s (r .sample); width = r .width; height = r .height; depth = r .«bit_depth»; cicp = r .cicp; xmp = span-of s (r .xmp); tone = none; alternate = none }
 
 abbrev pub gain-said : List ℕ → GainSpans → EncodedGainMap → Gain
 gain-said s p g =
     record {
-      config = span-of s (p .hvcc);
+      hvcc = span-of s (p .hvcc);
       sample = span-of s (p .sample);
       width = g .width;
       height = g .height;
@@ -57,8 +57,8 @@ maybe-gain-said s p (G.Some g) = some (gain-said s p g)
 abbrev pub lent-said : List ℕ → SheetRead → List ℕ → List ℕ → Lent
 lent-said s r color-lengths alpha-lengths =
     record {
-      tiles = record { config = span-of s (r .pictures .«color_hvcc»); lengths = color-lengths; bytes = span-of s (r .pictures .«color_samples») };
-      alpha = record { config = span-of s (r .pictures .«alpha_hvcc»); lengths = alpha-lengths; bytes = span-of s (r .pictures .«alpha_samples») };
+      tiles = record { hvcc = span-of s (r .pictures .«color_hvcc»); lengths = color-lengths; bytes = span-of s (r .pictures .«color_samples») };
+      alpha = record { hvcc = span-of s (r .pictures .«alpha_hvcc»); lengths = alpha-lengths; bytes = span-of s (r .pictures .«alpha_samples») };
       icc = span-of s (r .icc);
       exif = span-of s (r .exif);
       gain-hvcc = span-of s (r .gain .hvcc);

@@ -26,15 +26,15 @@ pub record Pictures : Type 0 where
 -- both records, n lengths for each, and bytes for the sum of the lengths
 unfoldable pub two-pictures : ℕ → Reader Pictures
 two-pictures n =
-    string then λ colour-record.
-    string then λ alpha-record.
+    string then λ colour-hvcc.
+    string then λ alpha-hvcc.
     lengths n then λ colour-lengths.
     lengths n then λ alpha-lengths.
     bytes (total colour-lengths) then λ colour-bytes.
     bytes (total alpha-lengths) then λ alpha-bytes.
     give (record {
-      colour = record { config = colour-record; lengths = colour-lengths; bytes = colour-bytes };
-      alpha = record { config = alpha-record; lengths = alpha-lengths; bytes = alpha-bytes };
+      colour = record { hvcc = colour-hvcc; lengths = colour-lengths; bytes = colour-bytes };
+      alpha = record { hvcc = alpha-hvcc; lengths = alpha-lengths; bytes = alpha-bytes };
     })
 
 -- ---- then only fields whose bit stands, lowest first
@@ -66,21 +66,21 @@ metadata m =
 -- the gain map's own fields
 unfoldable pub image : Reader Gain
 image =
-    string then λ config.
+    string then λ hvcc.
     string then λ sample.
     number 4 then λ width.
     number 4 then λ height.
     depth then λ d.
     cicp then λ c.
     string then λ xmp.
-    give (record { config = config; sample = sample; width = width; height = height; depth = d; cicp = c; xmp = xmp; tone = none; alternate = none })
+    give (record { hvcc = hvcc; sample = sample; width = width; height = height; depth = d; cicp = c; xmp = xmp; tone = none; alternate = none })
 
 -- an alternate colour is there if one of its two fields is
 unfoldable pub alternate : Map → Reader (Option Colour)
 alternate m = colour (m .«alternate_cicp») (m .«alternate_icc») then λ c. give (filled (c .cicp) (c .icc))
 
 abbrev pub toned : Gain → Option (List ℕ) → Option Colour → Gain
-toned g tone other = record { config = g .config; sample = g .sample; width = g .width; height = g .height; depth = g .depth; cicp = g .cicp; xmp = g .xmp; tone = tone; alternate = other }
+toned g tone other = record { hvcc = g .hvcc; sample = g .sample; width = g .width; height = g .height; depth = g .depth; cicp = g .cicp; xmp = g .xmp; tone = tone; alternate = other }
 
 unfoldable pub gain : Map → Reader Gain
 gain m =

@@ -51,14 +51,14 @@ pub struct GainRead {
 fn read_image(sheet: &[u8], c: Cursor) -> ImageRead
     ensures { λ r. ⌜ Reads (now (sheet .entry)) c image (image-of (now (sheet .entry)) r) (r .next) ⌝ }
 {
-    let config = read_string(sheet, c);
-    let data = read_string(sheet, config.next);
+    let hvcc_read = read_string(sheet, c);
+    let data = read_string(sheet, hvcc_read.next);
     let width = read_number(sheet, data.next, 4);
     let height = read_number(sheet, width.next, 4);
     let d = read_depth(sheet, height.next);
     let k = read_cicp(sheet, d.next);
     let x = read_string(sheet, k.next);
-    let hvcc = config.span;
+    let hvcc = hvcc_read.span;
     let sample = data.span;
     let bit_depth = d.depth;
     let cicp = k.cicp;

@@ -43,8 +43,8 @@ off-cicps o = off-optional cicp cicp-bytes o (of-all off-cicp o)
 off-pictures : (n : ℕ) (p : Pictures) → Tiled n (p .colour) → Tiled n (p .alpha) → total (p .colour .lengths) < 2 ^ 32 → total (p .alpha .lengths) < 2 ^ 32 → Says (two-pictures n) (pictures-bytes p) p
 unfolding two-pictures
 off-pictures n p c a hc ha =
-    and-then _ (off-string (p .colour .config))
-    (and-then _ (off-string (p .alpha .config))
+    and-then _ (off-string (p .colour .hvcc))
+    (and-then _ (off-string (p .alpha .hvcc))
     (and-then _ (off-lengths (p .colour .lengths) n (c .count) hc)
     (and-then _ (off-lengths (p .alpha .lengths) n (a .count) ha)
     (and-then _ (off-bytes (total (p .colour .lengths)) (p .colour .bytes) (sym (c .sum)))
@@ -72,12 +72,12 @@ off-metadata p f =
 -- ---- the gain map
 
 abbrev plain : Gain → Gain
-plain g = record { config = g .config; sample = g .sample; width = g .width; height = g .height; depth = g .depth; cicp = g .cicp; xmp = g .xmp; tone = none; alternate = none }
+plain g = record { hvcc = g .hvcc; sample = g .sample; width = g .width; height = g .height; depth = g .depth; cicp = g .cicp; xmp = g .xmp; tone = none; alternate = none }
 
 off-image : (g : Gain) → Gain-fits g → Says image (image-bytes g) (plain g)
 unfolding image
 off-image g f =
-    and-then _ (off-string (g .config))
+    and-then _ (off-string (g .hvcc))
     (and-then _ (off-string (g .sample))
     (and-then _ (off-number 4 (g .width) (f .width))
     (and-then _ (off-number 4 (g .height) (f .height))

@@ -90,7 +90,7 @@ tone-small (some t) a h k = omega (arith, alternate-small a k)
 gain-small : (g : Option Gain) → Of Short-gain g → shares (gain-extras g) ≤ 61850
 unfolding shares
 gain-small none h = omega arith
-gain-small (some g) h = omega (arith, h .config, h .sample, h .xmp, tone-small (g .tone) (g .alternate) (h .tone) (h .alternate))
+gain-small (some g) h = omega (arith, h .hvcc, h .sample, h .xmp, tone-small (g .tone) (g .alternate) (h .tone) (h .alternate))
 
 grid-small : (d : GridDims) → shares (grid-extras d) ≤ 8
 grid-small d = given-small (wide d) wide-grid
@@ -141,7 +141,7 @@ module _ (p : Panel) (b : Bounded p) where
         extras-small,
         cond-small (has (p .gain)) (turn-count (p .metadata .orientation)),
         turns-small (p .metadata .orientation) .1,
-        cond-small (gain-rext (p .gain) && not (rext (p .tiles .config))) 4,
+        cond-small (gain-rext (p .gain) && not (rext (p .tiles .hvcc))) 4,
         b .pictures .tiles,
         b .pictures .colour .count,
         b .pictures .colour-config,

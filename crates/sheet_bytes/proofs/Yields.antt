@@ -135,8 +135,8 @@ pub record Held (n : ℕ) (p : Pictures) : Type 0 where
   pub colour : Tiled n (p .colour)
   pub alpha : Tiled n (p .alpha)
   pub tiles : n ≤ 3072
-  pub colour-config : Short (p .colour .config)
-  pub alpha-config : Short (p .alpha .config)
+  pub colour-config : Short (p .colour .hvcc)
+  pub alpha-config : Short (p .alpha .hvcc)
   pub colour-bytes : Short (p .colour .bytes)
   pub alpha-bytes : Short (p .alpha .bytes)
 
@@ -179,13 +179,13 @@ unfolding metadata
 some-metadata m = seq _ (an-orientation (m .orientation)) (λ o h. seq _ (maybe (m .«light_level») a-light) (λ l h. seq _ (maybe (m .exif) a-string) (λ e he. gives (record { exif = he }))))
 
 pub record Short-gain (g : Gain) : Type 0 where
-  pub config : Short (g .config)
+  pub hvcc : Short (g .hvcc)
   pub sample : Short (g .sample)
   pub xmp : Short (g .xmp)
   pub tone : Of Short (g .tone)
   pub alternate : Of Short-colour (g .alternate)
 
-an-image : Yields image (λ g. Short (g .config) × Short (g .sample) × Short (g .xmp))
+an-image : Yields image (λ g. Short (g .hvcc) × Short (g .sample) × Short (g .xmp))
 unfolding image
 an-image =
     seq _ a-string (λ c hc. seq _ a-string (λ s hs. seq _ (a-number 4) (λ w h. seq _ (a-number 4) (λ v h.
@@ -204,7 +204,7 @@ a-gain : (m : Map) → Yields (gain m) Short-gain
 unfolding gain
 a-gain m =
     seq _ an-image (λ g hg. seq _ (maybe (m .tmap) a-string) (λ t ht. seq _ (an-alternate m) (λ a ha.
-    gives (record { config = hg .0; sample = hg .1; xmp = hg .2; tone = ht; alternate = ha }))))
+    gives (record { hvcc = hg .0; sample = hg .1; xmp = hg .2; tone = ht; alternate = ha }))))
 
 -- ---- the panel
 

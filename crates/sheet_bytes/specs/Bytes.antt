@@ -36,8 +36,8 @@ lengths-bytes l = flatMap (be 4) l
 
 abbrev pub pictures-bytes : Pictures → List ℕ
 pictures-bytes p =
-    string-bytes (p .colour .config)
-    ‖ string-bytes (p .alpha .config)
+    string-bytes (p .colour .hvcc)
+    ‖ string-bytes (p .alpha .hvcc)
     ‖ lengths-bytes (p .colour .lengths)
     ‖ lengths-bytes (p .alpha .lengths)
     ‖ p .colour .bytes
@@ -68,7 +68,7 @@ metadata-bytes m = optional-bytes orientation-bytes (turned (m .orientation)) �
 
 abbrev pub image-bytes : Gain → List ℕ
 image-bytes g =
-    string-bytes (g .config)
+    string-bytes (g .hvcc)
     ‖ string-bytes (g .sample)
     ‖ be 4 (g .width)
     ‖ be 4 (g .height)

@@ -31,8 +31,8 @@ pub record Capped-payloads (y z : PayloadLengths) : Type 0 where
   pub tmap : Capped 4294967295 (y .tmap) (z .tmap)
 
 pub record Measured (l : Lent) (y : Lengths) : Type 0 where
-  pub color-hvcc : Length-of (l .tiles .config) (y .«color_hvcc»)
-  pub alpha-hvcc : Length-of (l .alpha .config) (y .«alpha_hvcc»)
+  pub color-hvcc : Length-of (l .tiles .hvcc) (y .«color_hvcc»)
+  pub alpha-hvcc : Length-of (l .alpha .hvcc) (y .«alpha_hvcc»)
   pub color-samples : Length-of (l .tiles .bytes) (y .«color_samples»)
   pub alpha-samples : Length-of (l .alpha .bytes) (y .«alpha_samples»)
   pub icc : Length-of (l .icc) (y .icc)

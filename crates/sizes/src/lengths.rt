@@ -53,7 +53,7 @@ pub fn lengths_of(
     exif: &[u8],
     gain: GainLengths,
 ) -> Lengths
-    ensures { λ r. ⌜ ((l : Lent) → l .tiles .config ≡ now («color_hvcc» .entry) → l .alpha .config ≡ now («alpha_hvcc» .entry) → l .tiles .bytes ≡ now («color_samples» .entry) → l .alpha .bytes ≡ now («alpha_samples» .entry) → l .icc ≡ now (icc .entry) → l .exif ≡ now (exif .entry) → Gain-measured (l .gain-hvcc) (l .gain-sample) (l .gain-xmp) (l .gain-tmap) (l .alternate-icc) gain → Measured l r) ⌝ }
+    ensures { λ r. ⌜ ((l : Lent) → l .tiles .hvcc ≡ now («color_hvcc» .entry) → l .alpha .hvcc ≡ now («alpha_hvcc» .entry) → l .tiles .bytes ≡ now («color_samples» .entry) → l .alpha .bytes ≡ now («alpha_samples» .entry) → l .icc ≡ now (icc .entry) → l .exif ≡ now (exif .entry) → Gain-measured (l .gain-hvcc) (l .gain-sample) (l .gain-xmp) (l .gain-tmap) (l .alternate-icc) gain → Measured l r) ⌝ }
 {
     Lengths {
         color_hvcc: capped(color_hvcc.len()),

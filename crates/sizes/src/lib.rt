@@ -12,7 +12,7 @@ ghost use Rattle.panel.specs.Forms.{form-of};
 ghost use Rattle.panel.specs.File.{rext, gain-rext};
 ghost use Rattle.length.specs.Size.{ftyp-size, iloc-size, iinf-size, iref-size, descriptor-size, exif-size, mdat-size};
 ghost use Rattle.locations.specs.Payloads.{gain-lengths};
-ghost use Rattle.places.specs.Roles.{Placed, Fit};
+ghost use Rattle.places.specs.Roles.{Placed, Narrow-places};
 ghost use Rattle.sizes.specs.Capped.{Capped, Length-of, Capped-payloads, Gain-measured, Measured};
 ghost use Rattle.sizes.specs.Sized.{Sized, Small};
 use crate::lengths::GainLengths;
@@ -146,9 +146,9 @@ pub fn sizes_of(
     gain: bool,
 ) -> Sizes
     requires { ⌜ s .tiles ≤ 65536 ⌝ }
-    requires { ⌜ Fit z ⌝ }
+    requires { ⌜ Narrow-places z ⌝ }
     requires { ⌜ descriptor ≤ 12 ⌝ }
-    ensures { λ r. ⌜ ((l : Lent) → Measured l y → s ≡ shape (panel-of panel l) → Placed (panel-of panel l) z → descriptor ≡ descriptor-size (panel .dims) → color ≡ rext (l .tiles .config) → gain ≡ gain-rext (gain-of (panel .«gain_map») l) → Sized (form-of form) (panel-of panel l) r) ⌝ }
+    ensures { λ r. ⌜ ((l : Lent) → Measured l y → s ≡ shape (panel-of panel l) → Placed (panel-of panel l) z → descriptor ≡ descriptor-size (panel .dims) → color ≡ rext (l .tiles .hvcc) → gain ≡ gain-rext (gain-of (panel .«gain_map») l) → Sized (form-of form) (panel-of panel l) r) ⌝ }
     ensures { λ r. ⌜ Small r ⌝ }
 {
     let metadata = panel.metadata;

@@ -8,7 +8,7 @@ ghost use Rattle.panel.specs.Of.{Lent, panel-of, part, cicp-of, alternate-of, g
 ghost use Rattle.panel.specs.Items.{has};
 ghost use Rattle.length.specs.Parts.{long};
 ghost use Rattle.length.specs.Properties.{first-colr-size, second-colr-count, second-colr-size, alternates-count, stated-size, alternates-size, gain-association-count, tone-properties-size, gain-properties-size, ipco-size};
-ghost use Rattle.places.specs.Places.{Options-fit};
+ghost use Rattle.places.specs.Places.{Narrow-options};
 ghost use Rattle.places.specs.Roles.{Placed};
 ghost use Rattle.sizes.specs.Capped.{Capped, Length-of, Measured};
 use crate::lengths::Lengths;
@@ -27,7 +27,7 @@ use places::pictures::OptionPlaces;
 
 // irot, imir and clli.
 fn turns_and_light_size(o: OptionPlaces) -> u32
-    requires { ⌜ Options-fit o ⌝ }
+    requires { ⌜ Narrow-options o ⌝ }
     ensures { λ r. ⌜ r ≡ o .irot .count + o .imir .count + 4 * o .clli .count ⌝ }
     ensures { λ r. ⌜ r ≤ 12 ⌝ }
 {
@@ -148,7 +148,7 @@ fn heads_size(count: u8) -> u32
 // ipco, the whole box: its head and one for each property, and what the properties hold.
 pub fn ipco_size(panel: Panel, z: Places, y: Lengths) -> u64
     requires { ⌜ z .count ≤ 127 ⌝ }
-    requires { ⌜ Options-fit (z .options) ⌝ }
+    requires { ⌜ Narrow-options (z .options) ⌝ }
     ensures { λ r. ⌜ ((l : Lent) → Measured l y → Placed (panel-of panel l) z → Capped 4294967295 r (8 + ipco-size (panel-of panel l))) ⌝ }
     ensures { λ r. ⌜ r ≤ 40000000000 ⌝ }
 {

@@ -16,8 +16,8 @@ column rows width c colour metadata gain =
     record {
       dims = record { cols = 1; rows = rows; «tile_w» = 64; «tile_h» = 64; «full_w» = width; «full_h» = 64 };
       depth = Eight;
-      tiles = record { config = 0x01 ∷ 0x01 ∷ []; lengths = replicate rows 1; bytes = replicate rows c };
-      alpha = record { config = 0x01 ∷ 0x04 ∷ []; lengths = replicate rows 1; bytes = replicate rows 0xBB };
+      tiles = record { hvcc = 0x01 ∷ 0x01 ∷ []; lengths = replicate rows 1; bytes = replicate rows c };
+      alpha = record { hvcc = 0x01 ∷ 0x04 ∷ []; lengths = replicate rows 1; bytes = replicate rows 0xBB };
       colour = colour;
       metadata = metadata;
       gain = gain;
@@ -55,7 +55,7 @@ abbrev pub P-tone : Panel
 P-tone =
     column 1 64 0xAA unstated plain
     (some (record {
-      config = [];
+      hvcc = [];
       sample = [];
       width = 1;
       height = 1;

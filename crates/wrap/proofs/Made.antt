@@ -107,11 +107,11 @@ module _ (n : Numbers) (l : Lent) (w : Form) (m : FilePlan) (made : Made-from w 
       0
       (boxes
       (item-boxes w (y .shape) its-places
-      ‖ property-boxes w (panel-of n (lent-props (l .tiles .config) (l .alpha .config) (l .icc) (l .gain-hvcc) (l .alternate-icc))) (y .shape) (m .places) (n .dims)))
+      ‖ property-boxes w (panel-of n (lent-props (l .tiles .hvcc) (l .alpha .hvcc) (l .icc) (l .gain-hvcc) (l .alternate-icc))) (y .shape) (m .places) (n .dims)))
 
   made-meta : its-meta ≡ meta w (locations (data-at w p) p) p
   made-meta =
-      let c : ipco (panel-of n (lent-props (l .tiles .config) (l .alpha .config) (l .icc) (l .gain-hvcc) (l .alternate-icc))) ≡ ipco p = sym (ipco-parts n l) in
+      let c : ipco (panel-of n (lent-props (l .tiles .hvcc) (l .alpha .hvcc) (l .icc) (l .gain-hvcc) (l .alternate-icc))) ≡ ipco p = sym (ipco-parts n l) in
       let a : associations (shape p) (its-of (m .places)) ≡ associations (shape p) (positions 1 (slots p)) = same-associations n l w m made in
       let d : n .dims ≡ p .dims = sym (same-dims n l) in
       (λ i. full "meta" 0 0 (boxes (item-boxes w (e .items i) (its-locations i) ‖ box "iprp" (boxes (c i ∷ ipma w (associations (e .items i) (its-of (m .places))) ∷ [])) ∷ grpl (e .items i) ‖ idat (d i) ∷ [])))

@@ -48,7 +48,7 @@ toned-only (some g) e = refl
 
 module _ (n : Numbers) (l : Lent) where
   abbrev its-props : Lent
-  its-props = lent-props (l .tiles .config) (l .alpha .config) (l .icc) (l .gain-hvcc) (l .alternate-icc)
+  its-props = lent-props (l .tiles .hvcc) (l .alpha .hvcc) (l .icc) (l .gain-hvcc) (l .alternate-icc)
 
   -- mdat, as its writer counts it
   abbrev pub mdat-bytes : ℕ
@@ -139,7 +139,7 @@ module _ (n : Numbers) (l : Lent) where
 
     pub ftyp-sum : y .ftyp ≡ 8 + ftyp-size (y .«color_rext») (y .«gain_rext») (y .shape .tone)
     ftyp-sum =
-        let x : y .ftyp ≡ 8 + ftyp-size (rext (p .tiles .config)) (gain-rext (p .gain)) (shape p .tone) = omega (arith, e .ftyp, length-head p) in
+        let x : y .ftyp ≡ 8 + ftyp-size (rext (p .tiles .hvcc)) (gain-rext (p .gain)) (shape p .tone) = omega (arith, e .ftyp, length-head p) in
         x ∙ sym (λ i. 8 + ftyp-size (e .color-rext i) (e .gain-rext i) (e .items i .tone))
 
     its-mdat : 8 + mdat-size p ≡ mdat-bytes
@@ -163,14 +163,14 @@ module _ (n : Numbers) (l : Lent) where
     pub alpha-sum : total (l .alpha .lengths) ≡ length (l .alpha .bytes)
     alpha-sum = ap (λ (t : Tiles). total (t .lengths)) (sym same-alpha) ∙ even .alpha-sum ∙ ap (λ (t : Tiles). length (t .bytes)) same-alpha
 
-    color-at : y .«color_data» + mdat-bytes ≡ 8 + size w p
-    color-at = omega (arith, e .color-data, data-at-size w p even, its-mdat)
+    colour-at : y .«color_data» + mdat-bytes ≡ 8 + size w p
+    colour-at = omega (arith, e .color-data, data-at-size w p even, its-mdat)
 
     pub color-end : y .«color_data» + total (l .tiles .lengths) < 4294967296
-    color-end = omega (arith, fits, color-at, color-sum)
+    color-end = omega (arith, fits, colour-at, color-sum)
 
     pub alpha-end : y .«alpha_data» + total (l .alpha .lengths) < 4294967296
-    alpha-end = omega (arith, fits, color-at, alpha-sum, e .alpha-data, e .color-data, ap (λ (t : Tiles). length (t .bytes)) same-tiles)
+    alpha-end = omega (arith, fits, colour-at, alpha-sum, e .alpha-data, e .color-data, ap (λ (t : Tiles). length (t .bytes)) same-tiles)
 
     pub other-end : y .«other_data» + (y .exif + (y .gain .sample + y .gain .xmp)) < 4294967296
     other-end =

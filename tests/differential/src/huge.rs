@@ -2,7 +2,7 @@
 
 use crate::compare::same_answer;
 use crate::memory::Zeros;
-use crate::panels::{full, p};
+use crate::panels::{full, p, Case};
 use crate::predict;
 use crate::run::Run;
 use kahopiru::{Panel, Refusal, Samples};
@@ -125,5 +125,21 @@ pub fn write(run: &mut Run) {
     println!("huge: one byte more gives {answer:?}");
     if answer != Err(5) || out != [0x5A; 600] {
         run.fail("one byte more", "is not refused with 5, or touches the output", &case.dims);
+    }
+    upstream_goes_on(&case);
+    case.color_lengths[0] += 1;
+    case.color_samples.push(0);
+    upstream_goes_on(&case);
+}
+
+/// Says what upstream writes for a panel like P whose file is too long: its length, and where iloc says that the alpha tile lies.
+fn upstream_goes_on(case: &Case) {
+    let alpha_offset = 87 + 16 + 2 * 16 + 8; // iloc, its head, the entries of two items, and in the third what comes before the offset
+    match crate::upstream::write(case) {
+        Ok(theirs) => {
+            let offset = theirs[alpha_offset..][..4].iter().fold(0u32, |n, byte| n << 8 | u32::from(*byte));
+            println!("huge: upstream writes {} bytes, with the alpha tile at {offset}", theirs.len());
+        }
+        Err(why) => println!("huge: upstream: {why}"),
     }
 }

@@ -7,8 +7,8 @@ use Rattle.octets.proofs.Stores.{_▹_, told}
 use Rattle.panel.specs.Forms.{form-of}
 use Rattle.panel.specs.Ipma.{association}
 use Rattle.boxes.proofs.Marks.{associated}
-use Rattle.places.specs.Lists.{color-grid-list}
-use Rattle.places.proofs.Lengths.{length-color-grid-list}
+use Rattle.places.specs.Lists.{colour-grid-list}
+use Rattle.places.proofs.Lengths.{length-colour-grid-list}
 use Rattle.ipma.proofs.write_color_associations.Statement.{statement}
 use Rattle.ipma.proofs.write_color_associations.Tie as tie
 
@@ -21,7 +21,7 @@ returns c =
     let id = count .before in
     let start = id .before .before .before .before .before in
     let a = start .args in
-    let grid = told ((c2 .write-association-head .ensures) ▹ (c3 .write-color-grid-list .ensures)) (associated (form-of (a .form)) (color-grid-list (a .c) (a .o)) (id .color-grid-id .ensures) (count .color-grid-count .ensures .0 ∙ sym (length-color-grid-list (a .c) (a .o)))) refl in
+    let grid = told ((c2 .write-association-head .ensures) ▹ (c3 .write-color-grid-list .ensures)) (associated (form-of (a .form)) (colour-grid-list (a .c) (a .o)) (id .color-grid-id .ensures) (count .color-grid-count .ensures .0 ∙ sym (length-colour-grid-list (a .c) (a .o)))) refl in
     told ((c1 .write-color-tile-associations .ensures) ▹ grid) (sym (flatMap-append (association (form-of (a .form))) _ _)) refl
 
 pub write-color-associations-spec : {M : Type 1} → statement M

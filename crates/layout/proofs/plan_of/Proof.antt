@@ -99,7 +99,7 @@ returns-3 c =
     let sized = (c13 .sizes-of .ensures) .0 l ((c8 .lengths-of .ensures) l refl refl refl refl refl refl (c7 .gain-lengths .ensures)) (h .items) there ((c12 .descriptor-length .ensures) .0) (c9 .hvcc-uses-rext .ensures) ((c10 .gain-uses-rext .ensures) l refl) in
     let done = accepted _ _ l h ((c14 .file-size .ensures) _ _ sized) (c15 .before .if1 .left) in
     let laid = (c15 .placed .ensures) _ _ (given _ _ l (done .0) sized (h .items) ((c12 .descriptor-length .ensures) .0) (c9 .hvcc-uses-rext .ensures) ((c10 .gain-uses-rext .ensures) l refl)) in
-    (record { accepted = done .0; long = done .1; laid = laid; placed = there; fit = (c11 .places-of .ensures) .1 }, fits _ l (start .good .1 .0))
+    (record { accepted = done .0; long = done .1; laid = laid; placed = there; narrow = (c11 .places-of .ensures) .1 }, fits _ l (start .good .1 .0))
 
 pub plan-of-spec : {M : Type 1} → statement M
 plan-of-spec = tie.close (tie.spec (λ c κs. search needs) (λ c. search needs) returns (λ c. search needs) (λ c κs. search needs) (λ c κs. search needs) (λ c κs. search needs) (λ c κs. search needs) (λ c κs. search needs) (λ c κs. search needs) sizes-of-requires (λ c κs. search needs) returns-2 placed-requires returns-3)

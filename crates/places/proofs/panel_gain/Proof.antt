@@ -2,7 +2,7 @@
 use borrow.Author.Needs.{needs}
 use native.Mathlib.Omega.{arith}
 use mathlib.Core.Path.{ap, _∙_}
-use Rattle.places.proofs.Roles.{image-fits, tone-fits}
+use Rattle.places.proofs.Roles.{narrow-image, narrow-tone}
 use Rattle.places.specs.Places.{gain-at, behind-gain}
 use Rattle.places.specs.declared.gain.GainPlaces.{GainPlaces}
 use Rattle.places.proofs.panel_gain.Statement.{statement}
@@ -20,9 +20,9 @@ returns c =
     let next = c4 .gain-from .ensures .1 in (
       λ l. (placed ∙ (λ i. gain-at n (c1 .when .ensures .0 i) (c2 .when2 .ensures .0 i) (c3 .gain-alternates .ensures .0 l i)), next ∙ (λ i. behind-gain n (c1 .when .ensures .0 i) (c2 .when2 .ensures .0 i) (c3 .gain-alternates .ensures .0 l i))),
       (
-        image-fits (ap (λ (g : GainPlaces). g .image) placed) (omega (arith, start .pre)) (c1 .when .ensures .1),
+        narrow-image (ap (λ (g : GainPlaces). g .image) placed) (omega (arith, start .pre)) (c1 .when .ensures .1),
         (
-          tone-fits (ap (λ (g : GainPlaces). g .tone) placed) (omega (arith, start .pre, c1 .when .ensures .1)) (c2 .when2 .ensures .1) (c3 .gain-alternates .ensures .1),
+          narrow-tone (ap (λ (g : GainPlaces). g .tone) placed) (omega (arith, start .pre, c1 .when .ensures .1)) (c2 .when2 .ensures .1) (c3 .gain-alternates .ensures .1),
           (omega (arith, next), omega (arith, next, c1 .when .ensures .1, c2 .when2 .ensures .1, c3 .gain-alternates .ensures .1)),
         ),
       ),

@@ -5,7 +5,7 @@ use mathlib.Core.Path.{_≡_, ap, _∙_}
 use mathlib.Core.Bool.{cond}
 use mathlib.Core.List.{[]}
 use Prim.Native.Nat.{ℕ, _+_, _-_}
-use Rattle.places.proofs.Roles.{laid-of, placed-of, color-fits, alpha-fits}
+use Rattle.places.proofs.Roles.{laid-of, placed-of, narrow-colour, narrow-alpha}
 use Rattle.places.specs.Places.{alpha-at, options-at, gain-at, behind-gain}
 use Rattle.places.specs.declared.gain.GainPlaces.{GainPlaces}
 use Rattle.length.specs.Properties.{second-colr-count, irot-count, imir-count}
@@ -51,7 +51,7 @@ returns c =
     let n4 = (c4 .panel-gain .ensures) .0 l .1 ∙ ap (λ (n : ℕ). behind-gain n g t a) n3 in
     let count : c4 .panel-gain .result .positions .next .0 - 1 ≡ laid-of p s .count = omega (arith, n4) in
     placed-of p s _ h (λ i. record { color = (c1 .color-places .ensures) .0 i; alpha = alpha i; options = options i; image = gain i .image; tone = gain i .tone; count = count i }) in
-    (given-lent, record { count = omega (arith, n1, n2, (c3 .panel-options .ensures) .1 .1, (c4 .panel-gain .ensures) .1 .1 .1 .1); color = color-fits ((c1 .color-places .ensures) .0); alpha = alpha-fits alpha; options = (c3 .panel-options .ensures) .1 .0; image = (c4 .panel-gain .ensures) .1 .0; tone = (c4 .panel-gain .ensures) .1 .1 .0 })
+    (given-lent, record { count = omega (arith, n1, n2, (c3 .panel-options .ensures) .1 .1, (c4 .panel-gain .ensures) .1 .1 .1 .1); color = narrow-colour ((c1 .color-places .ensures) .0); alpha = narrow-alpha alpha; options = (c3 .panel-options .ensures) .1 .0; image = (c4 .panel-gain .ensures) .1 .0; tone = (c4 .panel-gain .ensures) .1 .1 .0 })
 
 pub places-of-spec : {M : Type 1} → statement M
 places-of-spec = tie.close (tie.spec (λ c κs. search needs) (λ c κs. search needs) (λ c κs. search needs) (λ c κs. search needs) sub-t17 returns)

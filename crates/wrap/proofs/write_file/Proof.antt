@@ -21,7 +21,7 @@ write-meta-requires c κs =
     let c1 = c .before .before .before in
     let start = c1 .before .before .before .before .before .before .before .before .before .before .before .before .before .before .before .before .before .before .before .before in
     let made = start .pre .0 in
-    (omega (arith, file-sum _ _ _ _ made, made .long, start .pre .1, (c1 .write-ftyp .ensures) .wrote .end, kept ((c1 .write-ftyp .ensures) .wrote)), (item-sizes _ _ _ _ made, (property-sizes _ _ _ _ made, (made .fit, (sided _ _ _ _ made, (meta-sum _ _ _ _ made, (color-count _ _ _ _ made, (alpha-count _ _ _ _ made, (color-end _ _ _ _ made, (alpha-end _ _ _ _ made, other-end _ _ _ _ made))))))))))
+    (omega (arith, file-sum _ _ _ _ made, made .long, start .pre .1, (c1 .write-ftyp .ensures) .wrote .end, kept ((c1 .write-ftyp .ensures) .wrote)), (item-sizes _ _ _ _ made, (property-sizes _ _ _ _ made, (made .narrow, (sided _ _ _ _ made, (meta-sum _ _ _ _ made, (color-count _ _ _ _ made, (alpha-count _ _ _ _ made, (color-end _ _ _ _ made, (alpha-end _ _ _ _ made, other-end _ _ _ _ made))))))))))
 
 write-mdat-requires : tie.Need-write-mdat-requires
 unfolding lent
