@@ -10,12 +10,9 @@ use Rattle.panel.specs.Panel.{Gain, Panel}
 use Rattle.panel.specs.Items.{has, tone-of}
 use Rattle.panel.specs.Types.{irot-steps, imir-axis}
 use Rattle.panel.specs.Ipco
-use Rattle.panel.specs.Ipma.{positions}
 use Rattle.panel.proofs.Ids.{length-ids-from}
 use Rattle.length.specs.Properties.{second-colr-count, irot-count, imir-count, alternates-count, gain-association-count}
 use Rattle.length.proofs.Properties.{length-optional}
-use Rattle.boxes.specs.Runs.{places}
-use Rattle.boxes.specs.declared.association.Run.{Run}
 use Rattle.boxes.proofs.Marks.{length-places}
 use Rattle.places.specs.Roles.{its-of, Placed}
 use Rattle.places.specs.declared.Places.{Places}

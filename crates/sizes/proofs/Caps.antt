@@ -1,8 +1,7 @@
 -- Sums of capped numbers are capped.
 use mathlib.Core.Path.{_≡_, refl}
-use mathlib.Core.Bool.{Bool, true, false, cond}
 use mathlib.Core.Option.{Option, none, some}
-use Prim.Native.Nat.{ℕ, _+_, _≤_}
+use Prim.Native.Nat.{ℕ, _+_}
 use native.Mathlib.Omega.{arith}
 use Rattle.panel.specs.Panel.{Gain, Panel}
 use Rattle.panel.specs.Items.{Form, shape}
@@ -21,11 +20,6 @@ exact = record { below = omega arith; whole = λ h. refl }
 -- the same by other names
 pub renamed : {t a b c d : ℕ} → Capped t a b → c ≡ a → b ≡ d → Capped t c d
 renamed x e f = record { below = omega (arith, x .below); whole = λ h. omega (arith, x .whole (omega (arith, h))) }
-
--- the larger of two numbers bounds either
-pub cond-most : (b : Bool) (k n : ℕ) → n ≤ k → cond b k n ≤ k
-cond-most true k n h = omega arith
-cond-most false k n h = h
 
 -- the gain map's payloads, one by one and together
 pub together : (g : Option Gain) → gain-data-size g ≡ gain-lengths g .sample + gain-lengths g .xmp + gain-lengths g .tmap

@@ -1,12 +1,12 @@
 -- What the checks of the lookup found: the number that it answers, and what is known where it answers 0.
 use mathlib.Core.Path.{_≡_, refl, sym, ap, _∙_, subst}
 use mathlib.Core.Bool.{Bool, true, false, _||_, not, cond}
-use mathlib.Core.List.{List, [], _∷_}
+use mathlib.Core.List.{List, []}
 use Prim.Native.Nat.{ℕ, zero, suc, _+_, _*_, _-_, _≤_, _<_}
 use native.Mathlib.Omega.{arith}
-use lib.Dec.{ltb, leb, eqb}
+use lib.Dec.{leb, eqb}
 use lib.ListN.{length, take, drop, getD}
-use borrow.Author.Tests.{ltb-false, leb-true, eqb-true, not-false}
+use borrow.Author.Tests.{ltb-false, leb-true, not-false}
 use Rattle.octets.specs.Numbers.{total}
 use Rattle.octets.proofs.Lists.{total-step, total-take}
 use Rattle.octets.proofs.Tests.{and-both, or-false, or-second}
@@ -79,7 +79,7 @@ module _ (id : ℕ) (p : Pictures) where
     pub colours : total (p .colours) ≡ length (p .colour-bytes)
     pub alphas : total (p .alphas) ≡ length (p .alpha-bytes)
     pub few-tiles : n ≤ 32766
-    pub some-tile : (names-colour n id || names-alpha n id) ≡ true
+    some-tile : (names-colour n id || names-alpha n id) ≡ true
 
   pub accepted : tile-refusal id p ≡ 0 → Accepted
   accepted e =
@@ -152,7 +152,7 @@ module _ (id : ℕ) (p : Pictures) where
         bytes = ap (λ (x : List ℕ). take (getD l k 0) (drop (total (take k l)) x)) same ∙ sym (sample-at l b k h) ∙ e;
       }
 
-  pub span-holds : Holds (tile-span id p)
+  span-holds : Holds (tile-span id p)
   span-holds = by-refusal (tile-refusal id p) refl
     where
       accepts : tile-refusal id p ≡ 0 → (b : Bool) → names-colour n id ≡ b → Holds (tile-span id p)

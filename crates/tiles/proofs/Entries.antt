@@ -1,16 +1,15 @@
 -- What stands at a place of a list of bytes: numbers, an entry among entries, a payload among payloads.
 use mathlib.Core.Path.{_≡_, refl, sym, ap, _∙_}
 use mathlib.Core.List.{List, [], _∷_, _++_, map, flatten, flatMap, append-assoc}
-use Prim.Native.Nat.{ℕ, zero, suc, _+_, _*_, _/_, _%_, _^_, _≤_, _<_}
+use Prim.Native.Nat.{ℕ, zero, suc, _+_, _*_, _≤_, _<_}
 use native.Mathlib.Nat.{add-zero}
 use native.Mathlib.Omega.{arith}
 use lib.ListN.{length, length-append, take, drop, getD}
 use lib.Seq.{drop-drop, drop-at, take-at}
-use Rattle.octets.specs.Numbers.{_‖_, be, total}
+use Rattle.octets.specs.Numbers.{total}
 use Rattle.octets.proofs.Lists.{flatten-append}
 use Rattle.panel.specs.Items.{ordinary}
-use Rattle.panel.specs.Iloc.{Extent, Location, extents, located, entry}
-use Rattle.panel.proofs.Payloads.{length-entry}
+use Rattle.panel.specs.Iloc.{Location, extents, located, entry}
 
 -- ---- behind a front of so many bytes
 

@@ -13,17 +13,17 @@ use Rattle.octets.proofs.Lists.{flatten-append, flatMap-append, length-flatMap}
 use Rattle.octets.proofs.Numbers.{value-be}
 use Rattle.octets.proofs.Boxes.{boxes-cons, boxes-one, boxes-append}
 use Rattle.panel.specs.Panel.{Panel}
-use Rattle.panel.specs.Items.{ordinary, given, shape, colour-grid, alpha-tile, alpha-grid, exif-id, other-payloads, payloads}
-use Rattle.panel.specs.Iloc.{descriptor, Extent, Location, extents, located, locations, entry, iloc}
+use Rattle.panel.specs.Items.{ordinary, shape, colour-grid, alpha-tile, alpha-grid, exif-id, other-payloads, payloads}
+use Rattle.panel.specs.Iloc.{descriptor, Location, extents, located, locations, entry, iloc}
 use Rattle.panel.specs.Iinf.{iinf}
 use Rattle.panel.specs.Iref.{iref}
 use Rattle.panel.specs.File.{hdlr, pitm, iprp, grpl, idat, meta-boxes, meta, head, mdat, data-at, file}
-use Rattle.panel.specs.Refusal.{refusal, last-id}
+use Rattle.panel.specs.Refusal.{refusal}
 use Rattle.panel.proofs.Accepted.{Accepted, accepted}
 use Rattle.panel.proofs.Payloads.{cut, length-samples, length-extents, length-located, locations-runs, length-entry}
 use Rattle.length.specs.Parts.{Even}
 use Rattle.length.proofs.File.{even-accepted, length-file, data-at-size, length-mdat, data-begins}
-use Rattle.tiles.specs.Lookup.{names-colour, pictures, tile-refusal, tile-bytes, alpha-index}
+use Rattle.tiles.specs.Lookup.{names-colour, pictures, tile-refusal, tile-bytes}
 use Rattle.tiles.specs.Found.{pictures-of, read, entry-at, Locates}
 use Rattle.tiles.proofs.Answers.{colour-within, alpha-within, colour-part, alpha-part}
 use Rattle.tiles.proofs.Entries.{behind-front, Begins, begins, location-of, entry-of, within, payload-of}

@@ -56,7 +56,7 @@ other-lengths p =
 its-spans : (at : ℕ) (t : Tiles) → total (t .lengths) ≡ length (t .bytes) → extents at (cut t) ≡ spans at (t .lengths)
 its-spans at t h = extents-spans at (cut t) ∙ ap (spans at) (lengths-samples (t .lengths) (t .bytes) (omega (arith, h)))
 
-pub placed-locations : (p : Panel) → Even p → (at : ℕ) {os : List ℕ} → map length (other-payloads p) ≡ os
+placed-locations : (p : Panel) → Even p → (at : ℕ) {os : List ℕ} → map length (other-payloads p) ≡ os
     → placed (shape p) (length (descriptor (p .dims))) at (at + length (p .tiles .bytes)) (at + length (p .tiles .bytes) + length (p .alpha .bytes)) (p .tiles .lengths) (p .alpha .lengths) os
     ≡ locations at p
 placed-locations p h at {os} ho =

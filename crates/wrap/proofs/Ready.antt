@@ -2,15 +2,13 @@
 use mathlib.Core.Path.{_≡_, refl, sym, ap, _∙_}
 use mathlib.Core.Bool.{true}
 use mathlib.Core.Option.{Option, none, some}
-use mathlib.Core.List.{List}
-use Prim.Native.Nat.{ℕ, _+_, _≤_, _<_}
+use Prim.Native.Nat.{ℕ, _+_, _<_}
 use native.Mathlib.Omega.{arith}
 use lib.ListN.{length}
 use Rattle.octets.specs.Numbers.{total}
 use Rattle.panel.specs.Panel.{Tiles, Panel, Gain}
 use Rattle.panel.specs.Of.{Lent, panel-of, part}
 use Rattle.panel.specs.Items.{Form, has, tone-of, shape}
-use Rattle.panel.specs.Ipco
 use Rattle.panel.specs.Ipco.{slots, ipco}
 use Rattle.panel.specs.Ipma.{positions, associations, ipma}
 use Rattle.panel.specs.File.{rext, gain-rext, data-at, file, iprp}

@@ -1,5 +1,4 @@
 // The file of a panel: the call that writes it.
-ghost use mathlib.Core.Path.{_≡_};
 ghost use Prim.Native.Nat.{_≤_};
 ghost use lib.ListN.{length};
 ghost use Rattle.octets.specs.Stores.{Wrote};

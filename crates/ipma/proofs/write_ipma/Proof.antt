@@ -8,12 +8,7 @@ use Rattle.boxes.proofs.Forms.{raised}
 use Rattle.places.proofs.Entries.{entries-joined}
 use Rattle.length.proofs.Items.{length-associations}
 use Rattle.places.specs.Roles.{its-of}
-use Rattle.places.specs.Counts.{alpha-entries-size}
-use Rattle.places.specs.Lists.{alpha-entries}
-use Rattle.places.specs.declared.pictures.OptionPlaces.{OptionPlaces}
 use Rattle.panel.specs.Forms.{form-of}
-use Rattle.panel.specs.Ipma.{association}
-use mathlib.Core.List.{flatMap}
 use Rattle.ipma.proofs.write_ipma.Statement.{statement}
 use Rattle.ipma.proofs.write_ipma.Tie as tie
 

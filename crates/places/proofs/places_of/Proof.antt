@@ -7,7 +7,6 @@ use mathlib.Core.List.{[]}
 use Prim.Native.Nat.{ℕ, _+_, _-_}
 use Rattle.places.proofs.Roles.{laid-of, placed-of, narrow-colour, narrow-alpha}
 use Rattle.places.specs.Places.{alpha-at, options-at, gain-at, behind-gain}
-use Rattle.places.specs.declared.gain.GainPlaces.{GainPlaces}
 use Rattle.length.specs.Properties.{second-colr-count, irot-count, imir-count}
 use Rattle.panel.specs.Of.{Lent, panel-of}
 use Rattle.panel.specs.Items.{has, shape}

@@ -3,7 +3,6 @@ use borrow.Author.Needs.{needs}
 use mathlib.Core.Path.{ap}
 use Prim.Native.Nat.{ℕ}
 use lib.ListN.{getD}
-use Rattle.tiles.specs.declared.TileSpan.{TileSpan}
 use Rattle.tiles.proofs.span_of.Statement.{statement}
 use Rattle.tiles.proofs.span_of.Tie as tie
 

@@ -3,7 +3,7 @@ use borrow.Author.Needs.{needs}
 use native.Mathlib.Omega.{arith}
 use mathlib.Core.Path.{_≡_, ap, _∙_}
 use Prim.Native.Nat.{ℕ, _+_, _-_, _≤_}
-use lib.ListN.{length, take}
+use lib.ListN.{take}
 use Rattle.octets.specs.Numbers.{total}
 use Rattle.octets.proofs.Lists.{total-step, total-take}
 use Rattle.tiles.proofs.sum_before.Statement.{statement}

@@ -1,6 +1,5 @@
 -- Where the lookup refuses, no span; else that of the one list or of the other, whose tile the id names.
 use borrow.Author.Needs.{needs}
-use native.Mathlib.Omega.{arith}
 use mathlib.Core.Path.{sym, _∙_}
 use Prim.Native.Nat.{_<_}
 use lib.ListN.{length}
