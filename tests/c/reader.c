@@ -86,8 +86,8 @@ given read_sheet(bytes sheet, uint32_t *lengths, bool junk) {
     const uint32_t tile_w = number(&sheet, 4), tile_h = number(&sheet, 4);
     const uint32_t full_w = number(&sheet, 4), full_h = number(&sheet, 4);
     const uint8_t depth = named(&sheet, depths, sizeof depths);
-    g.color_record = string(&sheet);
-    g.alpha_record = string(&sheet);
+    g.color_hvcc = string(&sheet);
+    g.alpha_hvcc = string(&sheet);
     g.color_lengths = list(&sheet, cols * rows, lengths);
     g.alpha_lengths = list(&sheet, cols * rows, lengths + cols * rows);
     g.color_samples = take(&sheet, sum(g.color_lengths));
@@ -101,7 +101,7 @@ given read_sheet(bytes sheet, uint32_t *lengths, bool junk) {
     const uint16_t average_light = has_light ? (uint16_t)number(&sheet, 2) : no_code;
     g.exif = has_exif ? string(&sheet) : no_bytes;
 
-    g.gain_record = has_gain ? string(&sheet) : no_bytes;
+    g.gain_hvcc = has_gain ? string(&sheet) : no_bytes;
     g.gain_sample = has_gain ? string(&sheet) : no_bytes;
     const uint32_t gain_width = has_gain ? number(&sheet, 4) : no_code;
     const uint32_t gain_height = has_gain ? number(&sheet, 4) : no_code;

@@ -136,7 +136,7 @@ static void too_long(const given *p) {
     const bytes part = {memory, half};
     given g = *p;
     g.panel.has_exif = g.panel.has_gain = g.panel.gain.has_tmap = g.panel.color.has_icc = 1;
-    g.color_record = g.alpha_record = g.icc = g.exif = g.gain_record = g.gain_sample = g.xmp = part;
+    g.color_hvcc = g.alpha_hvcc = g.icc = g.exif = g.gain_hvcc = g.gain_sample = g.xmp = part;
     expect(call_length(&g).refusal == KAHOPIRU_ACCEPTED, "a file of less than 4 GiB", "it is accepted");
     g.tone_map = part;
     refused(&g, KAHOPIRU_FILE_LENGTH, "a file of more than 4 GiB");

@@ -25,8 +25,8 @@ typedef struct {
 typedef struct {
     kahopiru_panel panel;
     numbers color_lengths, alpha_lengths;
-    bytes color_record, alpha_record, color_samples, alpha_samples;
-    bytes icc, exif, gain_record, gain_sample, xmp, tone_map, alternate_icc;
+    bytes color_hvcc, alpha_hvcc, color_samples, alpha_samples;
+    bytes icc, exif, gain_hvcc, gain_sample, xmp, tone_map, alternate_icc;
 } given;
 
 /* calls.c: the four calls, each by the names of its parameters. */

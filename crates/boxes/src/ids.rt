@@ -32,7 +32,7 @@ pub fn write_ordinary_id(out: &mut [u8], at: usize, id: ItemId) -> usize
 }
 
 // Writes an id as the form has it.
-pub fn write_id(out: &mut [u8], at: usize, form: FileForm, id: WideItemId) -> usize
+pub(crate) fn write_id(out: &mut [u8], at: usize, form: FileForm, id: WideItemId) -> usize
     requires { ⌜ at + form-of form .id ≤ length (now out) ⌝ }
     ensures { λ r. ⌜ Wrote (now (out .entry)) at (form-of form .id) (be (form-of form .id) (id .0)) (now (out .exit)) r ⌝ }
 {
@@ -43,7 +43,13 @@ pub fn write_id(out: &mut [u8], at: usize, form: FileForm, id: WideItemId) -> us
 }
 
 // Writes n ids from `first` on.
-pub fn write_ids(out: &mut [u8], at: usize, form: FileForm, first: WideItemId, n: u32) -> usize
+pub(crate) fn write_ids(
+    out: &mut [u8],
+    at: usize,
+    form: FileForm,
+    first: WideItemId,
+    n: u32,
+) -> usize
     requires { ⌜ at + form-of form .id * n ≤ length (now out) ⌝ }
     requires { ⌜ first .0 + n < 4294967296 ⌝ }
     ensures { λ r. ⌜ Wrote (now (out .entry)) at (form-of form .id * n) (flatMap (be (form-of form .id)) (ids-from (first .0) n)) (now (out .exit)) r ⌝ }

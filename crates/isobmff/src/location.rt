@@ -133,7 +133,7 @@ fn write_iloc_head(out: &mut [u8], at: usize, form: FileForm, size: u32, s: Shap
 }
 
 // iloc.
-pub fn write_iloc(
+pub(crate) fn write_iloc(
     out: &mut [u8],
     at: usize,
     form: FileForm,

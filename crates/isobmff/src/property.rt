@@ -133,7 +133,7 @@ fn write_gain_properties(
 }
 
 // ipco.
-pub fn write_ipco(
+pub(crate) fn write_ipco(
     out: &mut [u8],
     at: usize,
     size: u32,

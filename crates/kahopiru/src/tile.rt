@@ -1,6 +1,6 @@
 // The tile lookup by numbers: since a reference can't be returned to C, where the tile's payload lies.
 ghost use mathlib.Core.Path.{_≡_};
-ghost use Rattle.tiles.specs.Lookup.{pictures, tile-span};
+ghost use Rattle.tiles.specs.Lookup.{lent-tiles, tile-span};
 ghost use Rattle.kahopiru.specs.Tile.{tile-told};
 use octets::when;
 use panel::ItemId;
@@ -25,7 +25,7 @@ pub extern "C" fn kahopiru_tile(
     color_samples: &[u8],
     alpha_samples: &[u8],
 ) -> TilePlace
-    ensures { λ r. ⌜ r ≡ tile-told (tile-span id (pictures (now («color_lengths» .entry)) (now («alpha_lengths» .entry)) (now («color_samples» .entry)) (now («alpha_samples» .entry)))) ⌝ }
+    ensures { λ r. ⌜ r ≡ tile-told (tile-span id (lent-tiles (now («color_lengths» .entry)) (now («alpha_lengths» .entry)) (now («color_samples» .entry)) (now («alpha_samples» .entry)))) ⌝ }
 {
     let span = tile_span(
         ItemId(id),

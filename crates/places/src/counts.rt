@@ -16,7 +16,7 @@ use panel::metadata::MaybeLightLevel;
 use panel::metadata::Orientation;
 
 // How many irot.
-pub fn irot_count(o: Orientation) -> u32
+pub(crate) fn irot_count(o: Orientation) -> u32
     ensures { λ r. ⌜ r ≡ irot-count o ⌝ }
     ensures { λ r. ⌜ r ≤ 1 ⌝ }
 {
@@ -33,7 +33,7 @@ pub fn irot_count(o: Orientation) -> u32
 }
 
 // How many imir.
-pub fn imir_count(o: Orientation) -> u32
+pub(crate) fn imir_count(o: Orientation) -> u32
     ensures { λ r. ⌜ r ≡ imir-count o ⌝ }
     ensures { λ r. ⌜ r ≤ 1 ⌝ }
 {
@@ -50,7 +50,7 @@ pub fn imir_count(o: Orientation) -> u32
 }
 
 // How many clli.
-pub fn light_count(light: MaybeLightLevel) -> u32
+pub(crate) fn light_count(light: MaybeLightLevel) -> u32
     ensures { λ r. ⌜ r ≡ cond (has (light-of light)) 1 0 ⌝ }
     ensures { λ r. ⌜ r ≤ 1 ⌝ }
 {
@@ -61,7 +61,7 @@ pub fn light_count(light: MaybeLightLevel) -> u32
 }
 
 // How many second colr.
-pub fn secondary_colr_count(c: ColorMetadata) -> u32
+pub(crate) fn secondary_colr_count(c: ColorMetadata) -> u32
     ensures { λ r. ⌜ ((x : List ℕ) → r ≡ second-colr-count (cicp-of (c .cicp)) (part (c .icc) x)) ⌝ }
     ensures { λ r. ⌜ r ≤ 1 ⌝ }
 {
@@ -74,7 +74,7 @@ pub fn secondary_colr_count(c: ColorMetadata) -> u32
 }
 
 // How many properties an alternate colour states.
-pub fn stated_count(c: ColorMetadata) -> u32
+fn stated_count(c: ColorMetadata) -> u32
     ensures { λ r. ⌜ ((x : List ℕ) → r ≡ cond (has (cicp-of (c .cicp))) 1 0 + cond (has (part (c .icc) x)) 1 0) ⌝ }
     ensures { λ r. ⌜ r ≤ 2 ⌝ }
 {
@@ -84,7 +84,7 @@ pub fn stated_count(c: ColorMetadata) -> u32
 }
 
 // How many properties the alternate colour has.
-pub fn alternate_count(alternate: MaybeColorMetadata) -> u32
+pub(crate) fn alternate_count(alternate: MaybeColorMetadata) -> u32
     ensures { λ r. ⌜ ((x : List ℕ) → r ≡ alternates-count (alternate-of alternate x)) ⌝ }
     ensures { λ r. ⌜ r ≤ 2 ⌝ }
 {

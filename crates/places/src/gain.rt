@@ -47,7 +47,7 @@ fn place_gain(positions: &mut Positions, image: u8, tone: u8, alternates: u8) ->
 }
 
 // The gain map's positions, and the running record as `place_gain` leaves it, to which it is lent.
-pub fn gain_from(positions: Positions, image: u8, tone: u8, alternates: u8) -> PlacedGain
+pub(crate) fn gain_from(positions: Positions, image: u8, tone: u8, alternates: u8) -> PlacedGain
     requires { ⌜ behind-gain (positions .next .0) image tone alternates ≤ 127 ⌝ }
     ensures { λ r. ⌜ (r .places ≡ gain-at (positions .next .0) image tone alternates) × (r .positions .next .0 ≡ behind-gain (positions .next .0) image tone alternates) ⌝ }
 {

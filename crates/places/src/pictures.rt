@@ -46,7 +46,7 @@ pub struct PlacedOptions {
 }
 
 // The positions of the colour picture's properties, k of each.
-pub fn color_places(positions: Positions, k: u8) -> PlacedColor
+pub(crate) fn color_places(positions: Positions, k: u8) -> PlacedColor
     requires { ⌜ positions .next .0 + 5 * k ≤ 127 ⌝ }
     requires { ⌜ k ≤ 1 ⌝ }
     ensures { λ r. ⌜ (r .places ≡ colour-at (positions .next .0) k) × (r .positions .next .0 ≡ positions .next .0 + k + k + k + k + k) ⌝ }
@@ -70,7 +70,7 @@ pub fn color_places(positions: Positions, k: u8) -> PlacedColor
 }
 
 // The positions of the alpha picture's properties, k of each.
-pub fn alpha_places(positions: Positions, k: u8) -> PlacedAlpha
+pub(crate) fn alpha_places(positions: Positions, k: u8) -> PlacedAlpha
     requires { ⌜ positions .next .0 + 3 * k ≤ 127 ⌝ }
     requires { ⌜ k ≤ 1 ⌝ }
     ensures { λ r. ⌜ (r .places ≡ alpha-at (positions .next .0) k) × (r .positions .next .0 ≡ positions .next .0 + k + k + k) ⌝ }
@@ -90,7 +90,13 @@ pub fn alpha_places(positions: Positions, k: u8) -> PlacedAlpha
 }
 
 // The positions of the properties that may be absent, with so many of each.
-pub fn option_places(positions: Positions, colr: u8, irot: u8, imir: u8, clli: u8) -> PlacedOptions
+pub(crate) fn option_places(
+    positions: Positions,
+    colr: u8,
+    irot: u8,
+    imir: u8,
+    clli: u8,
+) -> PlacedOptions
     requires { ⌜ positions .next .0 + 4 ≤ 127 ⌝ }
     requires { ⌜ colr ≤ 1 ⌝ }
     requires { ⌜ irot ≤ 1 ⌝ }

@@ -24,7 +24,7 @@ pub struct Lengths {
 }
 
 // A length in 32 bits.
-pub fn capped(n: usize) -> u32
+fn capped(n: usize) -> u32
     ensures { λ r. ⌜ Capped 4294967295 r n ⌝ }
 {
     if n < 4294967295 { n as u32 } else { 4294967295 }

@@ -62,14 +62,14 @@ pub fn gain_uses_rext(gain: MaybeGainMap, hvcc: &[u8]) -> bool
 }
 
 // ftyp, the whole box. color and gain: the record is of the range extensions' profile.
-pub fn ftyp_size(color: bool, gain: bool, tone: bool) -> u32
+fn ftyp_size(color: bool, gain: bool, tone: bool) -> u32
     ensures { λ r. ⌜ r ≡ 8 + ftyp-size color gain tone ⌝ }
 {
     28 + when(adds_heix(color, gain), 4) + when(tone, 4)
 }
 
 // iloc, the whole box: an entry of an id and 14 bytes for each item.
-pub fn iloc_size(form: FileForm, s: Shape) -> u32
+fn iloc_size(form: FileForm, s: Shape) -> u32
     requires { ⌜ s .tiles ≤ 65536 ⌝ }
     ensures { λ r. ⌜ r ≡ 8 + iloc-size (form-of form) s ⌝ }
 {
@@ -78,7 +78,7 @@ pub fn iloc_size(form: FileForm, s: Shape) -> u32
 }
 
 // iinf, the whole box: an entry of an id and 19 bytes for each item, and the content type of XMP.
-pub fn iinf_size(form: FileForm, s: Shape) -> u32
+fn iinf_size(form: FileForm, s: Shape) -> u32
     requires { ⌜ s .tiles ≤ 65536 ⌝ }
     ensures { λ r. ⌜ r ≡ 8 + iinf-size (form-of form) s ⌝ }
 {
@@ -87,7 +87,7 @@ pub fn iinf_size(form: FileForm, s: Shape) -> u32
 }
 
 // iref, the whole box: references of an id and 10 bytes, and an id for each item referred to.
-pub fn iref_size(form: FileForm, s: Shape) -> u32
+fn iref_size(form: FileForm, s: Shape) -> u32
     requires { ⌜ s .tiles ≤ 65536 ⌝ }
     ensures { λ r. ⌜ r ≡ 8 + iref-size (form-of form) s ⌝ }
 {

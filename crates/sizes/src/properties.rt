@@ -38,7 +38,7 @@ fn turns_and_light_size(o: OptionPlaces) -> u32
 }
 
 // So many bytes and those of a part, where it is present.
-pub fn part_size(p: Part, head: u32, n: u32) -> u64
+pub(crate) fn part_size(p: Part, head: u32, n: u32) -> u64
     ensures { λ r. ⌜ ((x : List ℕ) → Length-of x n → Capped 4294967295 r (cond (has (part p x)) head 0 + long (part p x))) ⌝ }
     ensures { λ r. ⌜ r ≤ 8589934590 ⌝ }
 {
@@ -115,6 +115,7 @@ fn tone_properties_size(tmap: Part, alternate: MaybeColorMetadata, icc: u32) -> 
 {
     match tmap {
         Part::Absent => 0,
+        // ispe and pixi hold 20 bytes.
         Part::Present => 20 + alternate_size(alternate, icc),
     }
 }
@@ -129,6 +130,7 @@ fn gain_properties_size(gain: MaybeGainMap, hvcc: u32, icc: u32) -> u64
         MaybeGainMap::Some(g) => {
             let tmap = g.tmap;
             let alternate = g.alternate_color;
+            // ispe, pixi, auxC and colr hold 73 bytes.
             73 + hvcc as u64 + tone_properties_size(tmap, alternate, icc)
         }
     }
@@ -146,7 +148,7 @@ fn heads_size(count: u8) -> u32
 }
 
 // ipco, the whole box: its head and one for each property, and what the properties hold.
-pub fn ipco_size(panel: Panel, z: Places, y: Lengths) -> u64
+pub(crate) fn ipco_size(panel: Panel, z: Places, y: Lengths) -> u64
     requires { ⌜ z .count ≤ 127 ⌝ }
     requires { ⌜ Narrow-options (z .options) ⌝ }
     ensures { λ r. ⌜ ((l : Lent) → Measured l y → Placed (panel-of panel l) z → Capped 4294967295 r (8 + ipco-size (panel-of panel l))) ⌝ }
@@ -156,8 +158,10 @@ pub fn ipco_size(panel: Panel, z: Places, y: Lengths) -> u64
     let gain = panel.gain_map;
     let options = z.options;
     let g = y.gain;
-    77
+    // Its own head; then the two ispe, the two pixi and auxC, which are always there, hold 69 bytes.
+    8
         + heads_size(z.count) as u64
+        + 69
         + y.color_hvcc as u64
         + y.alpha_hvcc as u64
         + colr_size(color, y.icc)

@@ -65,7 +65,7 @@ fn print_refused() {
 }
 
 // Prints what is found among the tiles of panel P and of the panel with every part, and what is refused.
-pub fn print_lookups() {
+pub(crate) fn print_lookups() {
     print_tiles(&[1], &[1], &[0xAA], &[0xBB]);
     print_tiles(
         &[2, 1],

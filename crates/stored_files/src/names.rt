@@ -195,7 +195,7 @@ fn orientations() {
 }
 
 // Writes the file of each, with the rest of the output behind it.
-pub fn write_names() {
+pub(crate) fn write_names() {
     depths();
     colors();
     orientations();

@@ -12,7 +12,7 @@ use Rattle.octets.proofs.Lists.{total-step, total-take}
 use Rattle.octets.proofs.Tests.{and-both, or-false, or-second}
 use Rattle.panel.specs.Refusal.{differ}
 use Rattle.checks.proofs.Tests.{same, Decides, pass, stop, passed}
-use Rattle.tiles.specs.Lookup.{names-colour, names-alpha, bad-lists, too-many, Pictures, tile-checks, tile-refusal, accepted-or, colour-index, alpha-index, sample, tile-bytes, span-of, no-span, tile-span, Address, span-address}
+use Rattle.tiles.specs.Lookup.{names-colour, names-alpha, bad-lists, too-many, Lent-tiles, tile-checks, tile-refusal, accepted-or, colour-index, alpha-index, sample, tile-bytes, span-of, no-span, tile-span, Address, span-address}
 use Rattle.tiles.specs.declared.TileSpan.{TileSpan}
 use Rattle.tiles.proofs.Samples.{sample-at}
 
@@ -41,7 +41,7 @@ other : {A : Type 0} (x y : A) {k : ℕ} → (k ≡ 0 → ⊥) → accepted-or k
 other x y {k = zero} h = absurd (h refl)
 other x y {k = suc k} h = refl
 
-module _ (id : ℕ) (p : Pictures) where
+module _ (id : ℕ) (p : Lent-tiles) where
   abbrev n : ℕ
   n = length (p .colours)
 

@@ -23,8 +23,8 @@ use Rattle.panel.proofs.Accepted.{Accepted, accepted}
 use Rattle.panel.proofs.Payloads.{cut, length-samples, length-extents, length-located, locations-runs, length-entry}
 use Rattle.length.specs.Parts.{Even}
 use Rattle.length.proofs.File.{even-accepted, length-file, data-at-size, length-mdat, data-begins}
-use Rattle.tiles.specs.Lookup.{names-colour, pictures, tile-refusal, tile-bytes}
-use Rattle.tiles.specs.Found.{pictures-of, read, entry-at, Locates}
+use Rattle.tiles.specs.Lookup.{names-colour, lent-tiles, tile-refusal, tile-bytes}
+use Rattle.tiles.specs.Found.{lent-tiles-of, read, entry-at, Locates}
 use Rattle.tiles.proofs.Answers.{colour-within, alpha-within, colour-part, alpha-part}
 use Rattle.tiles.proofs.Entries.{behind-front, Begins, begins, location-of, entry-of, within, payload-of}
 
@@ -241,14 +241,14 @@ module _ (p : Panel) (a : Accepted ordinary p) where
       locates colours alphas (other-payloads p) refl k within (alpha-tile (shape p)) (omega arith) (small id (omega arith)) c
 
 -- what the lookup gives for an id that it accepts is what the file's entry of that id says
-pub tile-in-file : (p : Panel) → refusal ordinary p ≡ 0 → (id : ℕ) → tile-refusal id (pictures-of p) ≡ 0 → Locates p id (tile-bytes id (pictures-of p))
-unfolding pictures
+pub tile-in-file : (p : Panel) → refusal ordinary p ≡ 0 → (id : ℕ) → tile-refusal id (lent-tiles-of p) ≡ 0 → Locates p id (tile-bytes id (lent-tiles-of p))
+unfolding lent-tiles
 tile-in-file p r id z = by (names-colour (length (p .tiles .lengths)) id) refl
   where
-    by : (b : Bool) → names-colour (length (p .tiles .lengths)) id ≡ b → Locates p id (tile-bytes id (pictures-of p))
+    by : (b : Bool) → names-colour (length (p .tiles .lengths)) id ≡ b → Locates p id (tile-bytes id (lent-tiles-of p))
     by true e =
         let w = colour-within (length (p .tiles .lengths)) id e in
-        subst (Locates p id) (colour-part id (pictures-of p) z e) (colour-found p (accepted ordinary p r) id (w .0) (w .1))
+        subst (Locates p id) (colour-part id (lent-tiles-of p) z e) (colour-found p (accepted ordinary p r) id (w .0) (w .1))
     by false e =
-        let w = alpha-within id (pictures-of p) z e in
-        subst (Locates p id) (alpha-part id (pictures-of p) z e) (alpha-found p (accepted ordinary p r) id (w .0) (omega (arith, w .1, accepted ordinary p r .count, accepted ordinary p r .alpha-count)))
+        let w = alpha-within id (lent-tiles-of p) z e in
+        subst (Locates p id) (alpha-part id (lent-tiles-of p) z e) (alpha-found p (accepted ordinary p r) id (w .0) (omega (arith, w .1, accepted ordinary p r .count, accepted ordinary p r .alpha-count)))

@@ -8,11 +8,11 @@ use Rattle.octets.specs.Boxes.{boxes}
 use Rattle.panel.specs.Panel.{Panel}
 use Rattle.panel.specs.Items.{ordinary, shape}
 use Rattle.panel.specs.File.{head, hdlr, pitm, file}
-use Rattle.tiles.specs.Lookup.{Pictures, pictures}
+use Rattle.tiles.specs.Lookup.{Lent-tiles, lent-tiles}
 
 -- what a lookup in a panel's tiles is lent
-abbrev pub pictures-of : Panel → Pictures
-pictures-of p = pictures (p .tiles .lengths) (p .alpha .lengths) (p .tiles .bytes) (p .alpha .bytes)
+abbrev pub lent-tiles-of : Panel → Lent-tiles
+lent-tiles-of p = lent-tiles (p .tiles .lengths) (p .alpha .lengths) (p .tiles .bytes) (p .alpha .bytes)
 
 -- the number in k bytes from i on
 abbrev pub read : ℕ → ℕ → List ℕ → ℕ

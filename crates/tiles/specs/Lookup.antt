@@ -25,16 +25,16 @@ abbrev pub too-many : ℕ → Bool
 too-many n = ltb 65535 (2 * n + 2)
 
 -- the lists of lengths and the bytes that are lent, colour and alpha
-pub record Pictures : Type 0 where
+pub record Lent-tiles : Type 0 where
   pub colours : List ℕ
   pub alphas : List ℕ
   pub colour-bytes : List ℕ
   pub alpha-bytes : List ℕ
 
-unfoldable pub pictures : List ℕ → List ℕ → List ℕ → List ℕ → Pictures
-pictures colours alphas colour-bytes alpha-bytes = record { colours = colours; alphas = alphas; colour-bytes = colour-bytes; alpha-bytes = alpha-bytes }
+unfoldable pub lent-tiles : List ℕ → List ℕ → List ℕ → List ℕ → Lent-tiles
+lent-tiles colours alphas colour-bytes alpha-bytes = record { colours = colours; alphas = alphas; colour-bytes = colour-bytes; alpha-bytes = alpha-bytes }
 
-abbrev pub tile-checks : ℕ → Pictures → List Check
+abbrev pub tile-checks : ℕ → Lent-tiles → List Check
 tile-checks id p =
     let n = length (p .colours) in
     check 2 (λ _. bad-lists n (length (p .alphas)))
@@ -44,7 +44,7 @@ tile-checks id p =
     ∷ []
 
 -- the number of the first check that holds, or 0
-unfoldable pub tile-refusal : ℕ → Pictures → ℕ
+unfoldable pub tile-refusal : ℕ → Lent-tiles → ℕ
 tile-refusal id p = first (tile-checks id p)
 
 -- which tile of its picture an id names, counted from 0
@@ -64,7 +64,7 @@ accepted-or zero x y = x
 accepted-or (suc k) x y = y
 
 -- the payload of the tile that an id names; empty where it is refused
-unfoldable pub tile-bytes : ℕ → Pictures → List ℕ
+unfoldable pub tile-bytes : ℕ → Lent-tiles → List ℕ
 tile-bytes id p =
     let n = length (p .colours) in
     let colour = sample (p .colours) (p .colour-bytes) (colour-index id) in
@@ -81,7 +81,7 @@ span-of alpha lengths k = record { refusal = 0; alpha = alpha; start = total (ta
 abbrev pub no-span : ℕ → TileSpan
 no-span k = record { refusal = k; alpha = false; start = 0; size = 0 }
 
-unfoldable pub tile-span : ℕ → Pictures → TileSpan
+unfoldable pub tile-span : ℕ → Lent-tiles → TileSpan
 tile-span id p =
     let n = length (p .colours) in
     let colour = span-of false (p .colours) (colour-index id) in

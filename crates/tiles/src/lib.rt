@@ -3,12 +3,12 @@ ghost use mathlib.Core.Path.{_≡_};
 ghost use Prim.Native.Nat.{_+_, _*_, _≤_, _<_};
 ghost use lib.ListN.{length, take};
 ghost use Rattle.octets.specs.Numbers.{total};
-ghost use Rattle.tiles.specs.Lookup.{names-colour, names-alpha, bad-lists, too-many, pictures, tile-refusal, tile-bytes, span-of, tile-span, span-address};
+ghost use Rattle.tiles.specs.Lookup.{names-colour, names-alpha, bad-lists, too-many, lent-tiles, tile-refusal, tile-bytes, span-of, tile-span, span-address};
 use checks::bad_sums;
 use panel::ItemId;
 
 // Whether an id names one of n colour tiles.
-pub fn names_color(n: usize, id: ItemId) -> bool
+fn names_color(n: usize, id: ItemId) -> bool
     ensures { λ r. ⌜ r ≡ names-colour n (id .0) ⌝ }
 {
     let k = id.0 as usize;
@@ -16,7 +16,7 @@ pub fn names_color(n: usize, id: ItemId) -> bool
 }
 
 // Whether an id names one of n alpha tiles.
-pub fn names_alpha(n: usize, id: ItemId) -> bool
+fn names_alpha(n: usize, id: ItemId) -> bool
     requires { ⌜ n ≤ 32766 ⌝ }
     ensures { λ r. ⌜ r ≡ names-alpha n (id .0) ⌝ }
 {
@@ -25,14 +25,14 @@ pub fn names_alpha(n: usize, id: ItemId) -> bool
 }
 
 // Whether the lists of lengths differ in count, or are empty.
-pub fn bad_lists(colors: usize, alphas: usize) -> bool
+fn bad_lists(colors: usize, alphas: usize) -> bool
     ensures { λ r. ⌜ r ≡ bad-lists colors alphas ⌝ }
 {
     colors != alphas || colors == 0
 }
 
 // Whether the alpha grid's id would be above 65,535.
-pub fn too_many(n: usize) -> bool
+fn too_many(n: usize) -> bool
     ensures { λ r. ⌜ r ≡ too-many n ⌝ }
 {
     32766 < n
@@ -46,7 +46,7 @@ pub fn tile_refusal(
     color_samples: &[u8],
     alpha_samples: &[u8],
 ) -> u8
-    ensures { λ r. ⌜ r ≡ tile-refusal (id .0) (pictures (now («color_lengths» .entry)) (now («alpha_lengths» .entry)) (now («color_samples» .entry)) (now («alpha_samples» .entry))) ⌝ }
+    ensures { λ r. ⌜ r ≡ tile-refusal (id .0) (lent-tiles (now («color_lengths» .entry)) (now («alpha_lengths» .entry)) (now («color_samples» .entry)) (now («alpha_samples» .entry))) ⌝ }
 {
     let n = color_lengths.len();
     if bad_lists(n, alpha_lengths.len()) {
@@ -112,7 +112,7 @@ pub fn tile_span(
     color_samples: &[u8],
     alpha_samples: &[u8],
 ) -> TileSpan
-    ensures { λ r. ⌜ r ≡ tile-span (id .0) (pictures (now («color_lengths» .entry)) (now («alpha_lengths» .entry)) (now («color_samples» .entry)) (now («alpha_samples» .entry))) ⌝ }
+    ensures { λ r. ⌜ r ≡ tile-span (id .0) (lent-tiles (now («color_lengths» .entry)) (now («alpha_lengths» .entry)) (now («color_samples» .entry)) (now («alpha_samples» .entry))) ⌝ }
 {
     let n = color_lengths.len();
     let refusal = tile_refusal(
@@ -144,8 +144,8 @@ pub fn tile<'a>(
     color_samples: &'a [u8],
     alpha_samples: &'a [u8],
 ) -> &'a [u8]
-    ensures { λ r. ⌜ now r ≡ tile-bytes (id .0) (pictures (now («color_lengths» .entry)) (now («alpha_lengths» .entry)) (now («color_samples» .entry)) (now («alpha_samples» .entry))) ⌝ }
-    ensures { λ r. ⌜ r .ptr ≡ span-address (tile-span (id .0) (pictures (now («color_lengths» .entry)) (now («alpha_lengths» .entry)) (now («color_samples» .entry)) (now («alpha_samples» .entry)))) («color_samples» .entry .ptr) («alpha_samples» .entry .ptr) ⌝ }
+    ensures { λ r. ⌜ now r ≡ tile-bytes (id .0) (lent-tiles (now («color_lengths» .entry)) (now («alpha_lengths» .entry)) (now («color_samples» .entry)) (now («alpha_samples» .entry))) ⌝ }
+    ensures { λ r. ⌜ r .ptr ≡ span-address (tile-span (id .0) (lent-tiles (now («color_lengths» .entry)) (now («alpha_lengths» .entry)) (now («color_samples» .entry)) (now («alpha_samples» .entry)))) («color_samples» .entry .ptr) («alpha_samples» .entry .ptr) ⌝ }
 {
     let span = tile_span(
         id,

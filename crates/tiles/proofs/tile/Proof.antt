@@ -3,13 +3,13 @@ use borrow.Author.Needs.{needs}
 use mathlib.Core.Bool.{true, false}
 use Prim.Native.Nat.{_<_}
 use lib.ListN.{length}
-use Rattle.tiles.specs.Lookup.{pictures}
+use Rattle.tiles.specs.Lookup.{lent-tiles}
 use Rattle.tiles.proofs.Answers.{cut-within, cut-is, cut-lies, ends-below}
 use Rattle.tiles.proofs.tile.Statement.{statement}
 use Rattle.tiles.proofs.tile.Tie as tie
 
 add-end : tie.Need-add-end
-unfolding pictures
+unfolding lent-tiles
 add-end c =
     let c1 = c .before in
     let start = c1 .before .before .before .before .before in
@@ -18,22 +18,22 @@ add-end c =
     record { fits = ends-below _ _ _ (c1 .tile-span .ensures) _ color alpha }
 
 part-result-end : tie.Need-part-result-end
-unfolding pictures
+unfolding lent-tiles
 part-result-end c = cut-within _ _ true _ (c .before .before .tile-span .ensures) (c .if1 .taken)
 
 returns : tie.Need-returns
-unfolding pictures
+unfolding lent-tiles
 returns c =
     let c1 = c .before .before .before in
     let taken = c .before .if1 .taken in
     (cut-is _ _ true _ (c1 .tile-span .ensures) taken, cut-lies _ _ true _ (c1 .tile-span .ensures) taken _ _)
 
 part-result-end-2 : tie.Need-part-result-end-2
-unfolding pictures
+unfolding lent-tiles
 part-result-end-2 c = cut-within _ _ false _ (c .before .before .tile-span .ensures) (c .if1 .left)
 
 returns-2 : tie.Need-returns-2
-unfolding pictures
+unfolding lent-tiles
 returns-2 c =
     let c1 = c .before .before .before in
     let left = c .before .if1 .left in

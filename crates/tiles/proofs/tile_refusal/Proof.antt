@@ -2,19 +2,19 @@
 use borrow.Author.Needs.{needs}
 use mathlib.Core.Path.{sym, _∙_}
 use Rattle.octets.proofs.Tests.{or-here, or-next}
-use Rattle.tiles.specs.Lookup.{pictures}
+use Rattle.tiles.specs.Lookup.{lent-tiles}
 use Rattle.tiles.proofs.Answers.{few, stop-2, stop-3, stop-4, stop-7, accept}
 use Rattle.tiles.proofs.tile_refusal.Statement.{statement}
 use Rattle.tiles.proofs.tile_refusal.Tie as tie
 
 returns : tie.Need-returns
-unfolding pictures
+unfolding lent-tiles
 returns c =
     let c1 = c .before in
     stop-2 _ _ (sym (c1 .bad-lists .ensures) ∙ c .if1 .taken)
 
 returns-2 : tie.Need-returns-2
-unfolding pictures
+unfolding lent-tiles
 returns-2 c =
     let c2 = c .before in
     let c1 = c2 .before .before in
@@ -22,7 +22,7 @@ returns-2 c =
     stop-3 _ _ lists (sym (c2 .bad-sums .ensures) ∙ c .if2 .taken)
 
 returns-3 : tie.Need-returns-3
-unfolding pictures
+unfolding lent-tiles
 returns-3 c =
     let c3 = c .before in
     let c2 = c3 .before .before in
@@ -32,7 +32,7 @@ returns-3 c =
     stop-4 _ _ lists sums (sym (c3 .too-many .ensures) ∙ c .if3 .taken)
 
 returns-4 : tie.Need-returns-4
-unfolding pictures
+unfolding lent-tiles
 returns-4 c =
     let c4 = c .before in
     let c3 = c4 .before .before in
@@ -51,7 +51,7 @@ names-alpha-requires c κs =
     few _ (sym (c3 .too-many .ensures) ∙ c4 .before .if3 .left)
 
 returns-5 : tie.Need-returns-5
-unfolding pictures
+unfolding lent-tiles
 returns-5 c =
     let c5 = c .before in
     let c4 = c5 .before .before in
@@ -65,7 +65,7 @@ returns-5 c =
     accept _ _ lists sums fits (sym (or-next _ _ colour) ∙ (sym (c5 .names-alpha .ensures) ∙ c .if5 .taken))
 
 returns-6 : tie.Need-returns-6
-unfolding pictures
+unfolding lent-tiles
 returns-6 c =
     let c5 = c .before in
     let c4 = c5 .before .before in

@@ -3,7 +3,7 @@ use borrow.Author.Needs.{needs}
 use mathlib.Core.Path.{sym, _∙_}
 use Prim.Native.Nat.{_<_}
 use lib.ListN.{length}
-use Rattle.tiles.specs.Lookup.{pictures}
+use Rattle.tiles.specs.Lookup.{lent-tiles}
 use Rattle.tiles.proofs.Answers.{colour-within, alpha-within, accepted, refused-span, colour-span, alpha-span}
 use Rattle.tiles.proofs.tile_span.Statement.{statement}
 use Rattle.tiles.proofs.tile_span.Tie as tie
@@ -19,7 +19,7 @@ sub-span-of c =
     colour-within _ _ (sym (c2 .names-color .ensures) ∙ c .before .if2 .taken) .0
 
 span-of-requires : tie.Need-span-of-requires
-unfolding pictures
+unfolding lent-tiles
 span-of-requires c κs =
     let c2 = c .before .before in
     let c1 = c2 .before .before in
@@ -29,21 +29,21 @@ span-of-requires c κs =
     (colour-within _ _ (sym (c2 .names-color .ensures) ∙ c .before .if2 .taken) .1, rw (known .colours) lent)
 
 returns-2 : tie.Need-returns-2
-unfolding pictures
+unfolding lent-tiles
 returns-2 c =
     let c2 = c .before .before .before in
     let c1 = c2 .before .before in
     c .span-of .ensures ∙ colour-span _ _ (sym (c1 .tile-refusal .ensures) ∙ c2 .before .if1 .left) (sym (c2 .names-color .ensures) ∙ c .before .before .if2 .taken)
 
 sub-span-of-2 : tie.Need-sub-span-of-2
-unfolding pictures
+unfolding lent-tiles
 sub-span-of-2 c =
     let c2 = c .before .before in
     let c1 = c2 .before .before in
     alpha-within _ _ (sym (c1 .tile-refusal .ensures) ∙ c2 .before .if1 .left) (sym (c2 .names-color .ensures) ∙ c .before .if2 .left) .0
 
 span-of-requires-2 : tie.Need-span-of-requires-2
-unfolding pictures
+unfolding lent-tiles
 span-of-requires-2 c κs =
     let c2 = c .before .before in
     let c1 = c2 .before .before in
@@ -53,7 +53,7 @@ span-of-requires-2 c κs =
     (alpha-within _ _ zero (sym (c2 .names-color .ensures) ∙ c .before .if2 .left) .1, rw (accepted _ _ zero .alphas) lent)
 
 returns-3 : tie.Need-returns-3
-unfolding pictures
+unfolding lent-tiles
 returns-3 c =
     let c2 = c .before .before .before in
     let c1 = c2 .before .before in
