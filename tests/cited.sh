@@ -2,9 +2,9 @@
 # Every path and every name that README.md and docs/CLAIMS.md cite exists.
 #
 # A path is every word with a slash, or that ends as a file's name does, in backticks or not. CLAIMS.md leaves out `crates/`, and an edit's
-# ending; a file's name without a folder is some crate's file. A name is what stands in backticks, or each word of it where it is a formula, and is defined in
-# the crates, the bindings or the tests: a function, type, law or record, or a crate. Where the name is given its crate (`crate::name`) or
-# its place (`name` (path)), it is defined there. Blocks of code are not looked at; readme.sh tries them.
+# ending; a file's name without a folder is some crate's file. A name is what stands in backticks, or each word of it where it is a formula,
+# and is defined in the crates, the bindings or the tests: a function, type, law or record, or a crate. Where the name is given its crate
+# (`crate::name`) or its place in a folder (`name` (folder/file)), it is defined there. Blocks of code are not looked at; readme.sh tries them.
 set -euo pipefail
 cd "$(dirname "$0")/.."
 
@@ -34,6 +34,7 @@ defined() {
             if ($2 ~ /^[:({]/) print $1, FILENAME
         }' {} +
     find crates bindings tests \( -name '*.rt' -o -name '*.rs' \) -exec awk '
+        /^ *\/\// { next }
         match($0, /(fn|struct|enum|const|type) +[A-Za-z_0-9]+/) { split(substr($0, RSTART, RLENGTH), word, / +/); print word[2], FILENAME }' {} +
     for crate in crates/*/; do echo "$(basename "$crate") $crate"; done
 }

@@ -5,7 +5,7 @@ cd "$(dirname "$0")/.."
 
 fail() { echo "layout: $1" >&2; exit 1; }
 
-unformatted=$(rt fmt --check 2>&1 || true)
+unformatted=$(rt fmt --check 2>&1) || fail "not formatted: $unformatted"
 [ -z "$unformatted" ] || fail "not formatted: $unformatted"
 
 # The verdict on a library crate names what it assumes; here it must name nothing. rt leaves it in target/log/NAME.say, and keeps it there

@@ -61,7 +61,7 @@ fi
 ./panel </dev/null >"$room/log" 2>&1 || { cat "$room/log" >&2; fail "the program is not built"; }
 sed -n 's/^\$ //p' "$room/console" | while read -r command; do
     printf '$ %s\n' "$command"
-    (cd "$room/root" && PYTHONDONTWRITEBYTECODE=1 bash -c "$command" </dev/null 2>&1)
+    (cd "$room/root" && PYTHONDONTWRITEBYTECODE=1 bash -c "$command" </dev/null 2>&1) || echo "ended with $?"
 done >"$room/printed"
 diff "$room/console" "$room/printed" >&2 || fail "the commands print something else than README.md shows"
 block c >"$room/root/hello.c"

@@ -13,7 +13,7 @@ cp -r crates crates.txt target "$copy"
 # compiles CRATE: the compiler's part of a check, without the proofs of the crate itself
 compiles() { (cd "$copy" && rt mir "$1") >"$copy/out" 2>&1; }
 
-# mistaken CRATE FILE OLD NEW ERROR: the edit is refused with just this type error, and is taken back
+# mistaken CRATE FILE OLD NEW ERROR: the edit is refused with this type error, and is taken back
 mistaken() {
     grep -qF "$3" "$copy/crates/$1/src/$2" || fail "crates/$1/src/$2 no longer has '$3'"
     sed -i "s/$3/$4/" "$copy/crates/$1/src/$2"

@@ -126,7 +126,7 @@ static void ids(const given *p) {
     refused_tile(&g, 0, KAHOPIRU_NO_TILE, "the id 0");
 }
 
-/* Eight parts of half a GiB, all the same memory, make a file of more than 4 GiB. No call reads them. */
+/* Eight parts of half a GiB, all the same memory, make a file of more than 4 GiB. Of these the calls read at most the records' second bytes. */
 static void too_long(const given *p) {
     const size_t half = (size_t)1 << 29;
     uint8_t *memory = calloc(half, 1);
@@ -143,7 +143,7 @@ static void too_long(const given *p) {
     free(memory);
 }
 
-/* A panel in which every code is looked at, and then each of them replaced by the least that names nothing. */
+/* A panel in which every code is looked at, and then each of them replaced by codes that name nothing. */
 static void codes(const given *p) {
     given every = *p;
     every.panel.has_gain = every.panel.gain.has_tmap = every.panel.gain.has_alternate = 1;

@@ -108,18 +108,18 @@ fn write_color_tile_association(
     at: usize,
     form: FileForm,
     id: WideItemId,
-    one: Run,
-    two: Run,
-    three: Run,
+    hvcc: Run,
+    ispe: Run,
+    colr: Run,
 ) -> usize
-    requires { ⌜ at + (form-of form .id + 1 + (one .count + (two .count + three .count))) ≤ length (now out) ⌝ }
-    requires { ⌜ Narrow one ⌝ }
-    requires { ⌜ Narrow two ⌝ }
-    requires { ⌜ Narrow three ⌝ }
-    ensures { λ r. ⌜ Wrote (now (out .entry)) at (form-of form .id + 1 + (one .count + (two .count + three .count))) (association (form-of form) (id .0 with essential (places one) ‖ essential (places two) ‖ essential (places three))) (now (out .exit)) r ⌝ }
+    requires { ⌜ at + (form-of form .id + 1 + (hvcc .count + (ispe .count + colr .count))) ≤ length (now out) ⌝ }
+    requires { ⌜ Narrow hvcc ⌝ }
+    requires { ⌜ Narrow ispe ⌝ }
+    requires { ⌜ Narrow colr ⌝ }
+    ensures { λ r. ⌜ Wrote (now (out .entry)) at (form-of form .id + 1 + (hvcc .count + (ispe .count + colr .count))) (association (form-of form) (id .0 with essential (places hvcc) ‖ essential (places ispe) ‖ essential (places colr))) (now (out .exit)) r ⌝ }
 {
-    let a = write_association_head(out, at, form, id, one.count + (two.count + three.count));
-    write_runs(out, a, one, two, three, true)
+    let a = write_association_head(out, at, form, id, hvcc.count + (ispe.count + colr.count));
+    write_runs(out, a, hvcc, ispe, colr, true)
 }
 
 // The entries of n colour tiles from `first` on.
@@ -129,22 +129,22 @@ pub fn write_color_tile_associations(
     form: FileForm,
     first: WideItemId,
     n: u32,
-    one: Run,
-    two: Run,
-    three: Run,
+    hvcc: Run,
+    ispe: Run,
+    colr: Run,
 ) -> usize
-    requires { ⌜ at + (form-of form .id + 1 + (one .count + (two .count + three .count))) * n ≤ length (now out) ⌝ }
+    requires { ⌜ at + (form-of form .id + 1 + (hvcc .count + (ispe .count + colr .count))) * n ≤ length (now out) ⌝ }
     requires { ⌜ first .0 + n < 4294967296 ⌝ }
-    requires { ⌜ Narrow one ⌝ }
-    requires { ⌜ Narrow two ⌝ }
-    requires { ⌜ Narrow three ⌝ }
-    ensures { λ r. ⌜ Wrote (now (out .entry)) at ((form-of form .id + 1 + (one .count + (two .count + three .count))) * n) (flatMap (association (form-of form)) (each (first .0) n (essential (places one) ‖ essential (places two) ‖ essential (places three)))) (now (out .exit)) r ⌝ }
+    requires { ⌜ Narrow hvcc ⌝ }
+    requires { ⌜ Narrow ispe ⌝ }
+    requires { ⌜ Narrow colr ⌝ }
+    ensures { λ r. ⌜ Wrote (now (out .entry)) at ((form-of form .id + 1 + (hvcc .count + (ispe .count + colr .count))) * n) (flatMap (association (form-of form)) (each (first .0) n (essential (places hvcc) ‖ essential (places ispe) ‖ essential (places colr)))) (now (out .exit)) r ⌝ }
 {
     let mut left = n;
     let mut a = at;
     let mut id = first.0;
     while 0 < left {
-        a = write_color_tile_association(out, a, form, WideItemId(id), one, two, three);
+        a = write_color_tile_association(out, a, form, WideItemId(id), hvcc, ispe, colr);
         id += 1;
         left -= 1;
     }
@@ -157,17 +157,17 @@ fn write_alpha_tile_association(
     at: usize,
     form: FileForm,
     id: WideItemId,
-    one: Run,
-    two: Run,
+    hvcc: Run,
+    ispe: Run,
 ) -> usize
-    requires { ⌜ at + (form-of form .id + 1 + (one .count + two .count)) ≤ length (now out) ⌝ }
-    requires { ⌜ Narrow one ⌝ }
-    requires { ⌜ Narrow two ⌝ }
-    ensures { λ r. ⌜ Wrote (now (out .entry)) at (form-of form .id + 1 + (one .count + two .count)) (association (form-of form) (id .0 with essential (places one) ‖ essential (places two))) (now (out .exit)) r ⌝ }
+    requires { ⌜ at + (form-of form .id + 1 + (hvcc .count + ispe .count)) ≤ length (now out) ⌝ }
+    requires { ⌜ Narrow hvcc ⌝ }
+    requires { ⌜ Narrow ispe ⌝ }
+    ensures { λ r. ⌜ Wrote (now (out .entry)) at (form-of form .id + 1 + (hvcc .count + ispe .count)) (association (form-of form) (id .0 with essential (places hvcc) ‖ essential (places ispe))) (now (out .exit)) r ⌝ }
 {
-    let a = write_association_head(out, at, form, id, one.count + two.count);
-    let b = write_run(out, a, one, true);
-    write_run(out, b, two, true)
+    let a = write_association_head(out, at, form, id, hvcc.count + ispe.count);
+    let b = write_run(out, a, hvcc, true);
+    write_run(out, b, ispe, true)
 }
 
 // The entries of n alpha tiles from `first` on.
@@ -177,20 +177,20 @@ pub fn write_alpha_tile_associations(
     form: FileForm,
     first: WideItemId,
     n: u32,
-    one: Run,
-    two: Run,
+    hvcc: Run,
+    ispe: Run,
 ) -> usize
-    requires { ⌜ at + (form-of form .id + 1 + (one .count + two .count)) * n ≤ length (now out) ⌝ }
+    requires { ⌜ at + (form-of form .id + 1 + (hvcc .count + ispe .count)) * n ≤ length (now out) ⌝ }
     requires { ⌜ first .0 + n < 4294967296 ⌝ }
-    requires { ⌜ Narrow one ⌝ }
-    requires { ⌜ Narrow two ⌝ }
-    ensures { λ r. ⌜ Wrote (now (out .entry)) at ((form-of form .id + 1 + (one .count + two .count)) * n) (flatMap (association (form-of form)) (each (first .0) n (essential (places one) ‖ essential (places two)))) (now (out .exit)) r ⌝ }
+    requires { ⌜ Narrow hvcc ⌝ }
+    requires { ⌜ Narrow ispe ⌝ }
+    ensures { λ r. ⌜ Wrote (now (out .entry)) at ((form-of form .id + 1 + (hvcc .count + ispe .count)) * n) (flatMap (association (form-of form)) (each (first .0) n (essential (places hvcc) ‖ essential (places ispe)))) (now (out .exit)) r ⌝ }
 {
     let mut left = n;
     let mut a = at;
     let mut id = first.0;
     while 0 < left {
-        a = write_alpha_tile_association(out, a, form, WideItemId(id), one, two);
+        a = write_alpha_tile_association(out, a, form, WideItemId(id), hvcc, ispe);
         id += 1;
         left -= 1;
     }

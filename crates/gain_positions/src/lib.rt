@@ -60,7 +60,7 @@ pub fn image_places(positions: Positions, k: u8) -> PlacedImage
     }
 }
 
-// The tone map's positions, with k boxes of each kind and so many alternate colours.
+// The tone map's positions, with k boxes of each kind and so many colr of the alternate colour.
 pub fn tone_places(positions: Positions, k: u8, alternates: u8) -> PlacedTone
     requires { ⌜ behind-tone (positions .next .0) k alternates ≤ 127 ⌝ }
     ensures { λ r. ⌜ (r .places ≡ tone-at (positions .next .0) k alternates) × (r .positions .next .0 ≡ behind-tone (positions .next .0) k alternates) ⌝ }

@@ -14,8 +14,8 @@ abbrev pub other-sizes : Shape → ℕ → PayloadLengths → List ℕ
 other-sizes s e g = given (s .exif) (e ∷ []) ‖ sizes s g
 
 abbrev pub placed : Shape → ℕ → ℕ → ℕ → ℕ → List ℕ → List ℕ → List ℕ → List Location
-placed s n color alpha other colors alphas others =
-    located 1 0 (spans color colors)
+placed s n colour alpha other colours alphas others =
+    located 1 0 (spans colour colours)
     ‖ located (colour-grid s) 1 (record { offset = 0; size = n } ∷ [])
     ‖ located (alpha-tile s) 0 (spans alpha alphas)
     ‖ located (alpha-grid s) 1 (record { offset = n; size = n } ∷ [])

@@ -99,7 +99,7 @@ module _ (f : Form) (n : Numbers) (l : Lent) where
       → color ≡ rext (l .tiles .hvcc) → gain ≡ gain-rext (gain-of (n .«gain_map») l) → Given f (panel-of n l) z s k (length (l .tiles .bytes)) (length (l .alpha .bytes)) color gain
   unfolding panel-of
   given e y i k c g =
-      record { even = even-accepted f _ (is-accepted f _ e); sized = y; items = i; grid = k ∙ sym (length-descriptor (n .dims)); colors = refl; alphas = refl; color-rext = c; gain-rext = g }
+      record { even = even-accepted f _ (is-accepted f _ e); sized = y; items = i; grid = k ∙ sym (length-descriptor (n .dims)); colours = refl; alphas = refl; color-rext = c; gain-rext = g }
 
   module _ (h : Sides n l false) (i : Counts n l false) (j : Sums n l false) where
     -- s is the shape of the panel

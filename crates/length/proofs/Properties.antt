@@ -36,7 +36,7 @@ length-first-colr (some c) i = refl
 length-first-colr none (some i) = omega arith
 length-first-colr none none = refl
 
-length-second-colr : (c : Option Cicp) (i : Option (List ℕ)) → length (optional "colr" (second-colr c i)) ≡ second-colr-count c i
+pub length-second-colr : (c : Option Cicp) (i : Option (List ℕ)) → length (optional "colr" (second-colr c i)) ≡ second-colr-count c i
 length-second-colr (some c) none = refl
 length-second-colr (some c) (some i) = refl
 length-second-colr none i = refl
@@ -46,7 +46,7 @@ length-boxes-second-colr (some c) none = length-none
 length-boxes-second-colr (some c) (some i) = simp (length-boxes, length-none) (omega arith)
 length-boxes-second-colr none i = length-none
 
-length-alternates : (a : Option Colour) → length (alternates a) ≡ alternates-count a
+pub length-alternates : (a : Option Colour) → length (alternates a) ≡ alternates-count a
 length-alternates none = refl
 length-alternates (some a) = stated (a .cicp) (a .icc)
   where
@@ -74,7 +74,7 @@ length-boxes-imir : (a : Option Bool) → length (boxes (optional "imir" (imir-p
 length-boxes-imir none = length-none
 length-boxes-imir (some a) = simp (length-boxes, length-none)
 
-length-clli : (l : Option ContentLightLevel) → length (optional "clli" (clli-payload l)) ≡ cond (has l) 1 0
+pub length-clli : (l : Option ContentLightLevel) → length (optional "clli" (clli-payload l)) ≡ cond (has l) 1 0
 length-clli none = refl
 length-clli (some l) = refl
 

@@ -77,6 +77,10 @@ abbrev pub gain-properties-size : Option Gain → ℕ
 gain-properties-size none = 0
 gain-properties-size (some g) = image-properties-size (g .hvcc) + tone-properties-size (g .tone) (g .alternate)
 
+abbrev pub gain-property-count : Option Gain → ℕ
+gain-property-count none = 0
+gain-property-count (some g) = 5 + cond (has (g .tone)) (2 + alternates-count (g .alternate)) 0
+
 -- hvcC, two ispe, colr and pixi of the colour; hvcC, pixi and auxC of alpha; what is present of the second colr, irot, imir and clli
 abbrev pub ipco-size : Panel → ℕ
 ipco-size p =
@@ -92,10 +96,10 @@ ipco-size p =
 abbrev pub associated-items : Shape → ℕ
 associated-items s = 2 * s .tiles + 2 + cond (s .gain) 1 0 + cond (s .tone) 1 0
 
--- how many properties the gain image and the tone map have, where so many are transforms
+-- what the gain image and the tone map are associated with: the gain map's properties, and so many transforms
 abbrev pub gain-association-count : ℕ → Option Gain → ℕ
 gain-association-count turns none = 0
-gain-association-count turns (some g) = 5 + turns + cond (has (g .tone)) (2 + alternates-count (g .alternate)) 0
+gain-association-count turns (some g) = turns + gain-property-count (some g)
 
 -- a colour tile has three, an alpha tile two; each grid has three and the transforms, and the colour grid what is present of the second colr and clli
 abbrev pub association-count : Panel → ℕ

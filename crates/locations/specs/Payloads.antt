@@ -5,6 +5,6 @@ use Rattle.panel.specs.Panel.{Gain}
 use Rattle.length.specs.Parts.{long}
 use Rattle.locations.specs.declared.PayloadLengths.{PayloadLengths}
 
-abbrev pub gain-lengths : Option Gain → PayloadLengths
-gain-lengths none = record { sample = 0; xmp = 0; tmap = 0 }
-gain-lengths (some g) = record { sample = length (g .sample); xmp = length (g .xmp); tmap = long (g .tone) }
+abbrev pub payload-lengths : Option Gain → PayloadLengths
+payload-lengths none = record { sample = 0; xmp = 0; tmap = 0 }
+payload-lengths (some g) = record { sample = length (g .sample); xmp = length (g .xmp); tmap = long (g .tone) }

@@ -15,7 +15,7 @@ use Rattle.panel.proofs.Accepted.{Accepted}
 use Rattle.length.specs.Parts.{Even}
 use Rattle.length.specs.Properties.{ipco-size}
 use Rattle.length.specs.Size.{iprp-size, meta-size, exif-size, mdat-size}
-use Rattle.locations.specs.Payloads.{gain-lengths}
+use Rattle.locations.specs.Payloads.{payload-lengths}
 use Rattle.sizes.proofs.Caps.{together}
 use Rattle.length.proofs.Boxes.{length-iloc, length-iinf, length-iref}
 use Rattle.length.proofs.Properties.{length-ipco, length-ipma}
@@ -31,7 +31,7 @@ record Exact (f : Form) (p : Panel) (z : Sizes) : Type 0 where
   iprp : z .iprp ≡ 8 + iprp-size f p
   ipco : z .ipco ≡ 8 + ipco-size p
   exif : z .exif ≡ exif-size (p .metadata .exif)
-  gain : z .gain ≡ gain-lengths (p .gain)
+  gain : z .gain ≡ payload-lengths (p .gain)
 
 exact-sizes : (f : Form) (p : Panel) (z : Sizes) → Sized f p z → z .ftyp + z .meta + z .mdat ≤ 4294967295 → Exact f p z
 exact-sizes f p z s h =
@@ -69,7 +69,7 @@ pub record As-lengths (f : Form) (p : Panel) (z : Sizes) : Type 0 where
   pub mdat : z .mdat ≡ 8 + length (mdat p .body)
   pub data-at : z .ftyp + z .meta + 8 ≡ data-at f p
   pub exif : z .exif ≡ exif-size (p .metadata .exif)
-  pub gain : z .gain ≡ gain-lengths (p .gain)
+  pub gain : z .gain ≡ payload-lengths (p .gain)
 
 pub as-lengths : (f : Form) (p : Panel) (z : Sizes) → Even p → Sized f p z → z .ftyp + z .meta + z .mdat ≤ 4294967295 → As-lengths f p z
 as-lengths f p z e s h =

@@ -14,7 +14,7 @@ use Rattle.panel.specs.File.{rext, gain-rext, head, iprp, idat, meta, mdat, dat
 use Rattle.panel.specs.declared.Shape.{Shape}
 use Rattle.length.specs.Parts.{Even}
 use Rattle.length.specs.Size.{exif-size}
-use Rattle.locations.specs.Payloads.{gain-lengths}
+use Rattle.locations.specs.Payloads.{payload-lengths}
 use Rattle.sizes.specs.Sized.{Sized}
 use Rattle.sizes.specs.declared.Sizes.{Sizes}
 use Rattle.offsets.specs.declared.Layout.{Layout}
@@ -37,21 +37,21 @@ pub record Laid (f : Form) (p : Panel) (y : Layout) : Type 0 where
   pub alpha-data : y .«alpha_data» ≡ data-at f p + length (p .tiles .bytes)
   pub other-data : y .«other_data» ≡ data-at f p + length (p .tiles .bytes) + length (p .alpha .bytes)
   pub exif : y .exif ≡ exif-size (p .metadata .exif)
-  pub gain : y .gain ≡ gain-lengths (p .gain)
+  pub gain : y .gain ≡ payload-lengths (p .gain)
   pub color-rext : y .«color_rext» ≡ rext (p .tiles .hvcc)
   pub gain-rext : y .«gain_rext» ≡ gain-rext (p .gain)
 
 -- ---- what a layout is made from
 
 -- the sizes of a panel's boxes, the lengths of its descriptor and its samples, and whether its records are rext
-pub record Given (f : Form) (p : Panel) (z : Sizes) (s : Shape) (n c a : ℕ) (color gain : Bool) : Type 0 where
+pub record Given (f : Form) (p : Panel) (z : Sizes) (s : Shape) (n c a : ℕ) (colour gain : Bool) : Type 0 where
   pub even : Even p
   pub sized : Sized f p z
   pub items : s ≡ shape p
   pub grid : n ≡ length (descriptor (p .dims))
-  pub colors : c ≡ length (p .tiles .bytes)
+  pub colours : c ≡ length (p .tiles .bytes)
   pub alphas : a ≡ length (p .alpha .bytes)
-  pub color-rext : color ≡ rext (p .tiles .hvcc)
+  pub color-rext : colour ≡ rext (p .tiles .hvcc)
   pub gain-rext : gain ≡ gain-rext (p .gain)
 
 -- the boxes make a file, and mdat holds so many bytes of samples

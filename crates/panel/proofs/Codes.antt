@@ -21,7 +21,7 @@ use Rattle.panel.specs.declared.color.TransferFunction.the-variants as T
 use Rattle.panel.specs.declared.color.MatrixCoefficients.{MatrixCoefficients}
 use Rattle.panel.specs.declared.color.MatrixCoefficients.the-variants as M
 
-some-inj : {A : Type 0} {a b : A} → some a ≡ some b → a ≡ b
+pub some-inj : {A : Type 0} {a b : A} → some a ≡ some b → a ≡ b
 some-inj e = cc
 
 module _ {A : Type 0} (code : A → ℕ) where

@@ -21,12 +21,9 @@ use Rattle.panel.specs.declared.color.Cicp.{Cicp}
 use Rattle.panel.specs.declared.metadata.ContentLightLevel.{ContentLightLevel}
 use Rattle.panel.specs.declared.metadata.Orientation.{Orientation}
 use Rattle.panel.specs.declared.metadata.Orientation.the-variants.{Normal, FlipH, Rotate180, FlipV, Transpose, Rotate90, Transverse, Rotate270}
-use Rattle.panel.proofs.Codes.{code-inj, primaries-inj, transfer-inj, matrix-inj}
+use Rattle.panel.proofs.Codes.{some-inj, code-inj, primaries-inj, transfer-inj, matrix-inj}
 
 -- ---- options of bytes
-
-pub some-inj : {x y : List ℕ} → some x ≡ some y → x ≡ y
-some-inj e = cc
 
 none-some : {x : List ℕ} → none ≡ some x → ⊥
 none-some e = let z : _≡_ {A = ℕ} 0 1 = cc in omega arith

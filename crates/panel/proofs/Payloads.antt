@@ -29,7 +29,7 @@ flatten-samples [] [] h = refl
 flatten-samples [] (x ∷ b) h = absurd (omega arith)
 flatten-samples (n ∷ l) b h = behind (flatten-samples l _ (omega (arith, length-drop n b))) (simp take-append-drop)
   where
-    -- the other samples are cut from c
+    -- from whatever bytes c the definition cuts the other samples
     behind : {c : List ℕ} → flatten (samples l c) ≡ c → take n b ++ c ≡ b → take n b ++ flatten (samples l c) ≡ b
     behind s e = ap (λ (r : List ℕ). take n b ++ r) s ∙ e
 

@@ -100,7 +100,7 @@ option-at n l = getD l n none
 
 pub record Same-fields (p q : Panel) : Type 0 where
   pub hvcc : p .tiles .hvcc ≡ q .tiles .hvcc
-  pub alpha-config : p .alpha .hvcc ≡ q .alpha .hvcc
+  pub alpha-hvcc : p .alpha .hvcc ≡ q .alpha .hvcc
   pub tile : (p .dims .«tile_w» ≡ q .dims .«tile_w») × (p .dims .«tile_h» ≡ q .dims .«tile_h»)
   pub whole : (p .dims .«full_w» ≡ q .dims .«full_w») × (p .dims .«full_h» ≡ q .dims .«full_h»)
   pub depth : p .depth ≡ q .depth
@@ -116,7 +116,7 @@ same-fields p q fp fq e =
     let at : (n : ℕ) → option-at n (options p) ≡ option-at n (options q) = λ n. ap (option-at n) (a .0) in
     record {
       hvcc = ap (body-at 0) e;
-      alpha-config = ap (body-at 5) e;
+      alpha-hvcc = ap (body-at 5) e;
       tile = ispe-inj (fp .tile-w) (fp .tile-h) (fq .tile-w) (fq .tile-h) (ap (body-at 1) e);
       whole = ispe-inj (fp .full-w) (fp .full-h) (fq .full-w) (fq .full-h) (ap (body-at 2) e);
       depth = bits-inj (p .depth) (q .depth) (ap (depth-at 4) e);

@@ -16,7 +16,7 @@ use Rattle.panel.specs.declared.Shape.{Shape}
 use Rattle.panel.specs.declared.color.Cicp.{Cicp}
 use Rattle.panel.specs.declared.metadata.ContentLightLevel.{ContentLightLevel}
 use Rattle.length.specs.Properties.{second-colr-count, alternates-count, irot-count, imir-count}
-use Rattle.length.proofs.Properties.{length-optional}
+use Rattle.length.proofs.Properties.{length-optional, length-second-colr, length-alternates, length-clli}
 use Rattle.places.specs.Places.{Narrow-image, Narrow-tone, colour-at, alpha-at, options-at, Narrow-colour, Narrow-alpha, Narrow-options}
 use Rattle.gain_positions.specs.Positions.{image-at, tone-at, behind-image}
 use Rattle.gain_positions.specs.declared.ImagePlaces.{ImagePlaces}
@@ -32,7 +32,7 @@ use Rattle.places.specs.declared.Places.{Places}
 abbrev pub laid : ℕ → ℕ → ℕ → ℕ → ℕ → ℕ → ℕ → Places
 laid c r m l g t a =
     let n = 9 + c + r + m + l in
-    record { color = colour-at 1 1; alpha = alpha-at 6 1; options = options-at 9 c r m l; image = image-at n g; tone = tone-at (behind-image n g) t a; count = 8 + c + r + m + l + g + g + g + g + g + t + t + a }
+    record { color = colour-at 1; alpha = alpha-at 6; options = options-at 9 c r m l; image = image-at n g; tone = tone-at (behind-image n g) t a; count = 8 + c + r + m + l + g + g + g + g + g + t + t + a }
 
 -- how many boxes the definition has of each
 abbrev pub second-colrs : Panel → ℕ
@@ -48,9 +48,9 @@ abbrev pub cllis : Panel → ℕ
 cllis p = length (optional "clli" (Ipco.clli-payload (p .metadata .light)))
 
 -- alternate colours belong to a tone map
-abbrev pub alternate-colrs : Option Gain → ℕ
-alternate-colrs none = 0
-alternate-colrs (some g) = cond (has (g .tone)) (length (Ipco.alternates (g .alternate))) 0
+abbrev pub alternate-boxes : Option Gain → ℕ
+alternate-boxes none = 0
+alternate-boxes (some g) = cond (has (g .tone)) (length (Ipco.alternates (g .alternate))) 0
 
 -- ---- the tone map's roles, from n on
 
@@ -77,7 +77,7 @@ with-gain p g =
     record { dims = p .dims; depth = p .depth; tiles = p .tiles; alpha = p .alpha; colour = p .colour; metadata = p .metadata; gain = g }
 
 in-role : (p : Panel) (g : Option Gain) (r : Ipco.Role)
-    → its-of (laid (second-colrs p) (irots p) (imirs p) (cllis p) (cond (has g) 1 0) (cond (has (tone-of g)) 1 0) (alternate-colrs g)) r ≡ positions 1 (Ipco.slots (with-gain p g)) r
+    → its-of (laid (second-colrs p) (irots p) (imirs p) (cllis p) (cond (has g) 1 0) (cond (has (tone-of g)) 1 0) (alternate-boxes g)) r ≡ positions 1 (Ipco.slots (with-gain p g)) r
 unfolding its-of
 in-role p g Ipco.hvcC-colour = refl
 in-role p g Ipco.ispe-tile = refl
@@ -116,17 +116,17 @@ tone-counted size depth none a = refl
 tone-counted size depth (some t) a = simp length-append (omega arith)
 
 gain-counted : (size depth : Box) (g : Option Gain) → let k = cond {A = ℕ} (has g) 1 0 in let t = cond {A = ℕ} (has (tone-of g)) 1 0 in
-    length (Ipco.held (Ipco.gain-slots size depth g)) ≡ k + k + k + k + k + t + t + alternate-colrs g
+    length (Ipco.held (Ipco.gain-slots size depth g)) ≡ k + k + k + k + k + t + t + alternate-boxes g
 gain-counted size depth none = refl
 gain-counted size depth (some g) = omega (arith, tone-counted size depth (g .tone) (g .alternate))
 
 pub in-all : (p : Panel) → let k = cond {A = ℕ} (has (p .gain)) 1 0 in let t = cond {A = ℕ} (has (tone-of (p .gain))) 1 0 in
-    8 + second-colrs p + irots p + imirs p + cllis p + k + k + k + k + k + t + t + alternate-colrs (p .gain) ≡ length (Ipco.properties p)
+    8 + second-colrs p + irots p + imirs p + cllis p + k + k + k + k + k + t + t + alternate-boxes (p .gain) ≡ length (Ipco.properties p)
 in-all p = simp length-append (omega (arith, gain-counted (Ipco.tone-ispe (p .dims) (p .metadata .orientation)) (Ipco.pixi 3 (max (bits (p .depth)) 10)) (p .gain)))
 
 -- with so many of each as the definition has
 pub placed : (p : Panel) {c r m l g t a : ℕ} → c ≡ second-colrs p → r ≡ irots p → m ≡ imirs p → l ≡ cllis p → g ≡ cond (has (p .gain)) 1 0
-    → t ≡ cond (has (tone-of (p .gain))) 1 0 → a ≡ alternate-colrs (p .gain) → Placed p (laid c r m l g t a)
+    → t ≡ cond (has (tone-of (p .gain))) 1 0 → a ≡ alternate-boxes (p .gain) → Placed p (laid c r m l g t a)
 placed p hc hr hm hl hg ht ha =
     record {
       count = ap (λ (y : Places). y .count) (λ i. laid (hc i) (hr i) (hm i) (hl i) (hg i) (ht i) (ha i)) ∙ in-all p;
@@ -135,28 +135,9 @@ placed p hc hr hm hl hg ht ha =
 
 -- ---- the counts as the code has them
 
-pub length-second-colr : (c : Option Cicp) (i : Option (List ℕ)) → second-colr-count c i ≡ length (optional "colr" (Ipco.second-colr c i))
-length-second-colr (some c) none = refl
-length-second-colr (some c) (some i) = refl
-length-second-colr none i = refl
-
-pub length-clli : (l : Option ContentLightLevel) → cond (has l) 1 0 ≡ length (optional "clli" (Ipco.clli-payload l))
-length-clli none = refl
-length-clli (some l) = refl
-
-pub length-alternates : (a : Option Colour) → alternates-count a ≡ length (Ipco.alternates a)
-length-alternates none = refl
-length-alternates (some a) = stated (a .cicp) (a .icc)
-  where
-    stated : (c : Option Cicp) (i : Option (List ℕ)) → cond (has c) 1 0 + cond (has i) 1 0 ≡ length (Ipco.alternate-colrs c i)
-    stated (some c) none = refl
-    stated (some c) (some i) = refl
-    stated none (some i) = refl
-    stated none none = refl
-
-length-toned : (g : Option Gain) → toned-alternates g ≡ alternate-colrs g
+length-toned : (g : Option Gain) → toned-alternates g ≡ alternate-boxes g
 length-toned none = refl
-length-toned (some g) = ap (λ (k : ℕ). cond {A = ℕ} (has (g .tone)) k 0) (length-alternates (g .alternate))
+length-toned (some g) = ap (λ (k : ℕ). cond {A = ℕ} (has (g .tone)) k 0) (sym (length-alternates (g .alternate)))
 
 -- the places of a panel of this shape
 abbrev pub laid-of : Panel → Shape → Places
@@ -173,10 +154,10 @@ laid-of p s =
 pub placed-of : (p : Panel) (s : Shape) (y : Places) → s ≡ shape p → y ≡ laid-of p s → Placed p y
 placed-of p s y hs hy =
     let b = placed p
-    (length-second-colr (p .colour .cicp) (p .colour .icc))
+    (sym (length-second-colr (p .colour .cicp) (p .colour .icc)))
     (sym (length-optional "irot" (Ipco.irot-payload (irot-steps (p .metadata .orientation)))))
     (sym (length-optional "imir" (Ipco.imir-payload (imir-axis (p .metadata .orientation)))))
-    (length-clli (p .metadata .light))
+    (sym (length-clli (p .metadata .light)))
     (ap (λ (x : Shape). cond {A = ℕ} (x .gain) 1 0) hs)
     (ap (λ (x : Shape). cond {A = ℕ} (x .tone) 1 0) hs)
     (length-toned (p .gain)) in
@@ -184,7 +165,7 @@ placed-of p s y hs hy =
 
 -- ---- they fit
 
-pub narrow-colour : {y : ColorPlaces} → y ≡ colour-at 1 1 → Narrow-colour y
+pub narrow-colour : {y : ColorPlaces} → y ≡ colour-at 1 → Narrow-colour y
 narrow-colour e =
     rw e (record {
       hvcc = record { most = omega arith; few = omega arith };
@@ -194,7 +175,7 @@ narrow-colour e =
       pixi = record { most = omega arith; few = omega arith };
     })
 
-pub narrow-alpha : {y : AlphaPlaces} → y ≡ alpha-at 6 1 → Narrow-alpha y
+pub narrow-alpha : {y : AlphaPlaces} → y ≡ alpha-at 6 → Narrow-alpha y
 narrow-alpha e =
     rw e (record {
       hvcc = record { most = omega arith; few = omega arith };

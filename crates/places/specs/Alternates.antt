@@ -1,4 +1,4 @@
--- How many alternate colours a file states: they belong to a tone map.
+-- How many colr the alternate colour has in a file: they belong to a tone map.
 use mathlib.Core.Bool.{cond}
 use mathlib.Core.Option.{Option, none, some}
 use Prim.Native.Nat.{ℕ}

@@ -11,13 +11,12 @@ use Rattle.gain_positions.specs.declared.TonePlaces.{TonePlaces}
 
 -- ---- the panel's own properties
 
--- from n on, with k boxes of each kind
-abbrev pub colour-at : ℕ → ℕ → ColorPlaces
-colour-at n k =
-    record { hvcc = run-at n k; «ispe_tile» = run-at (n + k) k; «ispe_full» = run-at (n + k + k) k; colr = run-at (n + k + k + k) k; pixi = run-at (n + k + k + k + k) k }
+-- from n on, one box of each kind
+abbrev pub colour-at : ℕ → ColorPlaces
+colour-at n = record { hvcc = run-at n 1; «ispe_tile» = run-at (n + 1) 1; «ispe_full» = run-at (n + 2) 1; colr = run-at (n + 3) 1; pixi = run-at (n + 4) 1 }
 
-abbrev pub alpha-at : ℕ → ℕ → AlphaPlaces
-alpha-at n k = record { hvcc = run-at n k; pixi = run-at (n + k) k; auxc = run-at (n + k + k) k }
+abbrev pub alpha-at : ℕ → AlphaPlaces
+alpha-at n = record { hvcc = run-at n 1; pixi = run-at (n + 1) 1; auxc = run-at (n + 2) 1 }
 
 abbrev pub options-at : ℕ → ℕ → ℕ → ℕ → ℕ → OptionPlaces
 options-at n colr irot imir clli =

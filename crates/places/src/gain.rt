@@ -19,7 +19,7 @@ pub struct PlacedGain {
     pub positions: Positions,
 }
 
-// The gain map's positions, by value: so many boxes of each kind of the gain image and of the tone map, and so many alternate colours.
+// The gain map's positions, by value: so many boxes of each kind of the gain image and of the tone map, and so many colr of the alternate colour.
 fn gain_places(positions: Positions, image: u8, tone: u8, alternates: u8) -> PlacedGain
     requires { ⌜ behind-gain (positions .next .0) image tone alternates ≤ 127 ⌝ }
     ensures { λ r. ⌜ (r .places ≡ gain-at (positions .next .0) image tone alternates) × (r .positions .next .0 ≡ behind-gain (positions .next .0) image tone alternates) ⌝ }

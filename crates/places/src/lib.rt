@@ -50,7 +50,7 @@ pub struct Places {
     pub count: u8,
 }
 
-// How many alternate colours stand beside a tone map.
+// How many colr the alternate colour has beside a tone map.
 fn tone_alternates(tmap: Part, alternate: MaybeColorMetadata) -> u32
     ensures { λ r. ⌜ ((t x : List ℕ) → r ≡ cond (has (part tmap t)) (alternates-count (alternate-of alternate x)) 0) ⌝ }
     ensures { λ r. ⌜ r ≤ 2 ⌝ }
@@ -61,7 +61,7 @@ fn tone_alternates(tmap: Part, alternate: MaybeColorMetadata) -> u32
     }
 }
 
-// How many alternate colours a gain map has beside its tone map.
+// How many colr the alternate colour of a gain map has beside its tone map.
 fn gain_alternates(gain: MaybeGainMap) -> u32
     ensures { λ r. ⌜ ((l : Lent) → r ≡ toned-alternates (gain-of gain l)) ⌝ }
     ensures { λ r. ⌜ r ≤ 2 ⌝ }
@@ -116,13 +116,10 @@ pub fn places_of(panel: Panel, s: Shape) -> Places
     ensures { λ r. ⌜ Narrow-places r ⌝ }
 {
     let gain = panel.gain_map;
-    let color = color_places(
-        Positions {
-            next: PropertyPosition(1),
-        },
-        1,
-    );
-    let alpha = alpha_places(color.positions, 1);
+    let color = color_places(Positions {
+        next: PropertyPosition(1),
+    });
+    let alpha = alpha_places(color.positions);
     let options = panel_options(panel, alpha.positions);
     let gains = panel_gain(gain, s, options.positions);
     let a = color.places;

@@ -1,6 +1,6 @@
 // The positions of the properties of the colour picture and the alpha picture, and of those that may be absent.
 ghost use mathlib.Core.Path.{_≡_};
-ghost use Prim.Native.Nat.{_+_, _*_, _≤_};
+ghost use Prim.Native.Nat.{_+_, _≤_};
 ghost use Rattle.places.specs.Places.{colour-at, alpha-at, options-at};
 use boxes::association::Run;
 use gain_positions::Positions;
@@ -45,45 +45,43 @@ pub struct PlacedOptions {
     pub positions: Positions,
 }
 
-// The positions of the colour picture's properties, k of each.
-pub(crate) fn color_places(positions: Positions, k: u8) -> PlacedColor
-    requires { ⌜ positions .next .0 + 5 * k ≤ 127 ⌝ }
-    requires { ⌜ k ≤ 1 ⌝ }
-    ensures { λ r. ⌜ (r .places ≡ colour-at (positions .next .0) k) × (r .positions .next .0 ≡ positions .next .0 + k + k + k + k + k) ⌝ }
+// The positions of the colour picture's properties, one of each.
+pub(crate) fn color_places(positions: Positions) -> PlacedColor
+    requires { ⌜ positions .next .0 + 5 ≤ 127 ⌝ }
+    ensures { λ r. ⌜ (r .places ≡ colour-at (positions .next .0)) × (r .positions .next .0 ≡ positions .next .0 + 5) ⌝ }
 {
     let a = positions.next;
-    let b = PropertyPosition(a.0 + k);
-    let c = PropertyPosition(b.0 + k);
-    let d = PropertyPosition(c.0 + k);
-    let e = PropertyPosition(d.0 + k);
-    let next = PropertyPosition(e.0 + k);
+    let b = PropertyPosition(a.0 + 1);
+    let c = PropertyPosition(a.0 + 2);
+    let d = PropertyPosition(a.0 + 3);
+    let e = PropertyPosition(a.0 + 4);
+    let next = PropertyPosition(a.0 + 5);
     PlacedColor {
         places: ColorPlaces {
-            hvcc: Run { first: a, count: k },
-            ispe_tile: Run { first: b, count: k },
-            ispe_full: Run { first: c, count: k },
-            colr: Run { first: d, count: k },
-            pixi: Run { first: e, count: k },
+            hvcc: Run { first: a, count: 1 },
+            ispe_tile: Run { first: b, count: 1 },
+            ispe_full: Run { first: c, count: 1 },
+            colr: Run { first: d, count: 1 },
+            pixi: Run { first: e, count: 1 },
         },
         positions: Positions { next },
     }
 }
 
-// The positions of the alpha picture's properties, k of each.
-pub(crate) fn alpha_places(positions: Positions, k: u8) -> PlacedAlpha
-    requires { ⌜ positions .next .0 + 3 * k ≤ 127 ⌝ }
-    requires { ⌜ k ≤ 1 ⌝ }
-    ensures { λ r. ⌜ (r .places ≡ alpha-at (positions .next .0) k) × (r .positions .next .0 ≡ positions .next .0 + k + k + k) ⌝ }
+// The positions of the alpha picture's properties, one of each.
+pub(crate) fn alpha_places(positions: Positions) -> PlacedAlpha
+    requires { ⌜ positions .next .0 + 3 ≤ 127 ⌝ }
+    ensures { λ r. ⌜ (r .places ≡ alpha-at (positions .next .0)) × (r .positions .next .0 ≡ positions .next .0 + 3) ⌝ }
 {
     let a = positions.next;
-    let b = PropertyPosition(a.0 + k);
-    let c = PropertyPosition(b.0 + k);
-    let next = PropertyPosition(c.0 + k);
+    let b = PropertyPosition(a.0 + 1);
+    let c = PropertyPosition(a.0 + 2);
+    let next = PropertyPosition(a.0 + 3);
     PlacedAlpha {
         places: AlphaPlaces {
-            hvcc: Run { first: a, count: k },
-            pixi: Run { first: b, count: k },
-            auxc: Run { first: c, count: k },
+            hvcc: Run { first: a, count: 1 },
+            pixi: Run { first: b, count: 1 },
+            auxc: Run { first: c, count: 1 },
         },
         positions: Positions { next },
     }

@@ -23,9 +23,9 @@ start = record { at = 0; refusal = 0 }
 
 -- both pictures, their lengths at the front of two lists
 abbrev pub pictures-of : List ℕ → PictureSpans → List ℕ → List ℕ → Pictures
-pictures-of s p color alpha =
+pictures-of s p colour alpha =
     record {
-      colour = record { hvcc = span-of s (p .«color_hvcc»); lengths = take (p .«color_count») color; bytes = span-of s (p .«color_samples») };
+      colour = record { hvcc = span-of s (p .«color_hvcc»); lengths = take (p .«color_count») colour; bytes = span-of s (p .«color_samples») };
       alpha = record { hvcc = span-of s (p .«alpha_hvcc»); lengths = take (p .«alpha_count») alpha; bytes = span-of s (p .«alpha_samples») };
     }
 

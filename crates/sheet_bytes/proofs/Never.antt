@@ -144,8 +144,8 @@ module _ (p : Panel) (b : Bounded p) where
         cond-small (gain-rext (p .gain) && not (rext (p .tiles .hvcc))) 4,
         b .pictures .tiles,
         b .pictures .colour .count,
-        b .pictures .colour-config,
-        b .pictures .alpha-config,
+        b .pictures .colour-hvcc,
+        b .pictures .alpha-hvcc,
         b .pictures .colour-bytes,
         b .pictures .alpha-bytes,
       )

@@ -135,8 +135,8 @@ pub record Held (n : ℕ) (p : Pictures) : Type 0 where
   pub colour : Tiled n (p .colour)
   pub alpha : Tiled n (p .alpha)
   pub tiles : n ≤ 3072
-  pub colour-config : Short (p .colour .hvcc)
-  pub alpha-config : Short (p .alpha .hvcc)
+  pub colour-hvcc : Short (p .colour .hvcc)
+  pub alpha-hvcc : Short (p .alpha .hvcc)
   pub colour-bytes : Short (p .colour .bytes)
   pub alpha-bytes : Short (p .alpha .bytes)
 
@@ -150,8 +150,8 @@ both-pictures n =
       colour = record { count = hcl .0; sum = sym (hcb .0) };
       alpha = record { count = hal .0; sum = sym (hab .0) };
       tiles = hcl .1;
-      colour-config = hc;
-      alpha-config = ha;
+      colour-hvcc = hc;
+      alpha-hvcc = ha;
       colour-bytes = hcb .1;
       alpha-bytes = hab .1;
     })))))))

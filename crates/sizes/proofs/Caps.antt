@@ -7,7 +7,7 @@ use Rattle.panel.specs.Panel.{Gain, Panel}
 use Rattle.panel.specs.Items.{Form, shape}
 use Rattle.length.specs.Properties.{ipco-size, ipma-size}
 use Rattle.length.specs.Size.{iloc-size, iinf-size, iref-size, iprp-size, grpl-size, idat-size, meta-size, gain-data-size}
-use Rattle.locations.specs.Payloads.{gain-lengths}
+use Rattle.locations.specs.Payloads.{payload-lengths}
 use Rattle.sizes.specs.Capped.{Capped}
 
 infixl 20 _⊕_
@@ -22,7 +22,7 @@ pub renamed : {t a b c d : ℕ} → Capped t a b → c ≡ a → b ≡ d → Cap
 renamed x e f = record { below = omega (arith, x .below); whole = λ h. omega (arith, x .whole (omega (arith, h))) }
 
 -- the gain map's payloads, one by one and together
-pub together : (g : Option Gain) → gain-data-size g ≡ gain-lengths g .sample + gain-lengths g .xmp + gain-lengths g .tmap
+pub together : (g : Option Gain) → gain-data-size g ≡ payload-lengths g .sample + payload-lengths g .xmp + payload-lengths g .tmap
 together none = refl
 together (some g) = refl
 

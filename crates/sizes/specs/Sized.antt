@@ -6,7 +6,7 @@ use Rattle.panel.specs.Items.{Form, shape}
 use Rattle.length.specs.Properties.{ipco-size, ipma-size}
 use Rattle.length.specs.Size.{head-size, iloc-size, iinf-size, iref-size, iprp-size, idat-size, meta-size, exif-size, mdat-size}
 use Rattle.sizes.specs.Capped.{Capped, Capped-payloads}
-use Rattle.locations.specs.Payloads.{gain-lengths}
+use Rattle.locations.specs.Payloads.{payload-lengths}
 use Rattle.sizes.specs.declared.Sizes.{Sizes}
 
 pub record Sized (f : Form) (p : Panel) (y : Sizes) : Type 0 where
@@ -22,7 +22,7 @@ pub record Sized (f : Form) (p : Panel) (y : Sizes) : Type 0 where
   pub mdat : Capped 4294967295 (y .mdat) (8 + mdat-size p)
   -- the payloads behind the samples
   pub exif : Capped 4294967295 (y .exif) (exif-size (p .metadata .exif))
-  pub gain : Capped-payloads (y .gain) (gain-lengths (p .gain))
+  pub gain : Capped-payloads (y .gain) (payload-lengths (p .gain))
 
 -- their sums do not wrap
 pub record Small (y : Sizes) : Type 0 where

@@ -1,4 +1,4 @@
-// The whole size of each box of a file, from lengths alone: here those of the other boxes, in properties that of ipco.
+// The whole size of each box of a file and the sizes of its payloads, from lengths alone; that of ipco stands in properties.
 
 pub mod lengths;
 pub mod properties;
@@ -11,7 +11,7 @@ ghost use Rattle.panel.specs.Items.{shape};
 ghost use Rattle.panel.specs.Forms.{form-of};
 ghost use Rattle.panel.specs.File.{rext, gain-rext};
 ghost use Rattle.length.specs.Size.{ftyp-size, iloc-size, iinf-size, iref-size, descriptor-size, exif-size, mdat-size};
-ghost use Rattle.locations.specs.Payloads.{gain-lengths};
+ghost use Rattle.locations.specs.Payloads.{payload-lengths};
 ghost use Rattle.places.specs.Roles.{Placed, Narrow-places};
 ghost use Rattle.sizes.specs.Capped.{Capped, Length-of, Capped-payloads, Gain-measured, Measured};
 ghost use Rattle.sizes.specs.Sized.{Sized, Small};
@@ -34,8 +34,8 @@ use panel::gain_map::MaybeGainMap;
 use places::Places;
 use places::associations::ipma_bytes;
 
-// The whole size of each box, and of the payloads behind the samples. ipco, iprp, meta, mdat and exif are too large for a file where a
-// part is.
+// The whole size of each box, and of the payloads behind the samples. Where a byte part is too long for a file, ipco, iprp, meta, mdat, exif
+// and gain only stand for the true sizes (`Capped`).
 pub struct Sizes {
     pub ftyp: u32,
     pub iloc: u32,
@@ -98,8 +98,8 @@ fn iref_size(form: FileForm, s: Shape) -> u32
 }
 
 // How many bytes the gain map's payloads have, 0 where it is absent.
-fn gain_payloads(gain: MaybeGainMap, y: GainLengths) -> PayloadLengths
-    ensures { λ r. ⌜ ((l : Lent) → Gain-measured (l .gain-hvcc) (l .gain-sample) (l .gain-xmp) (l .gain-tmap) (l .alternate-icc) y → Capped-payloads r (gain-lengths (gain-of gain l))) ⌝ }
+fn payload_lengths(gain: MaybeGainMap, y: GainLengths) -> PayloadLengths
+    ensures { λ r. ⌜ ((l : Lent) → Gain-measured (l .gain-hvcc) (l .gain-sample) (l .gain-xmp) (l .gain-tmap) (l .alternate-icc) y → Capped-payloads r (payload-lengths (gain-of gain l))) ⌝ }
 {
     match gain {
         MaybeGainMap::None => PayloadLengths {
@@ -121,7 +121,7 @@ fn gain_payloads(gain: MaybeGainMap, y: GainLengths) -> PayloadLengths
 // mdat, the whole box, where the Exif payload and the gain map's have so many bytes.
 fn mdat_size(y: Lengths, exif: u64, gain: PayloadLengths) -> u64
     requires { ⌜ exif ≤ 8589934590 ⌝ }
-    ensures { λ r. ⌜ ((p : Pure.Panel) → Length-of (p .tiles .bytes) (y .«color_samples») → Length-of (p .alpha .bytes) (y .«alpha_samples») → Capped 4294967295 exif (exif-size (p .metadata .exif)) → Capped-payloads gain (gain-lengths (p .gain)) → Capped 4294967295 r (8 + mdat-size p)) ⌝ }
+    ensures { λ r. ⌜ ((p : Pure.Panel) → Length-of (p .tiles .bytes) (y .«color_samples») → Length-of (p .alpha .bytes) (y .«alpha_samples») → Capped 4294967295 exif (exif-size (p .metadata .exif)) → Capped-payloads gain (payload-lengths (p .gain)) → Capped 4294967295 r (8 + mdat-size p)) ⌝ }
     ensures { λ r. ⌜ r ≤ 31000000000 ⌝ }
 {
     8
@@ -162,6 +162,7 @@ pub fn sizes_of(
     let idat = 8 + 2 * descriptor;
     let ipco = ipco_size(panel, z, y);
     let iprp = 8 + ipco + ipma as u64;
+    // 12 of its head, 33 of hdlr, 12 of pitm without its id
     let meta = 57
         + ids_bytes(form, 1) as u64
         + iloc as u64
@@ -171,7 +172,7 @@ pub fn sizes_of(
         + when(s.tone, 36) as u64
         + idat as u64;
     let exif = part_size(present, 4, y.exif);
-    let payloads = gain_payloads(g, lengths);
+    let payloads = payload_lengths(g, lengths);
     Sizes {
         ftyp: ftyp_size(color, gain, s.tone),
         iloc,

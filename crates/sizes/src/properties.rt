@@ -7,7 +7,7 @@ ghost use Prim.Native.Nat.{ℕ, _+_, _*_, _≤_};
 ghost use Rattle.panel.specs.Of.{Lent, panel-of, part, cicp-of, alternate-of, gain-of};
 ghost use Rattle.panel.specs.Items.{has};
 ghost use Rattle.length.specs.Parts.{long};
-ghost use Rattle.length.specs.Properties.{first-colr-size, second-colr-count, second-colr-size, alternates-count, stated-size, alternates-size, gain-association-count, tone-properties-size, gain-properties-size, ipco-size};
+ghost use Rattle.length.specs.Properties.{first-colr-size, second-colr-count, second-colr-size, alternates-count, stated-size, alternates-size, gain-property-count, tone-properties-size, gain-properties-size, ipco-size};
 ghost use Rattle.places.specs.Places.{Narrow-options};
 ghost use Rattle.places.specs.Roles.{Placed};
 ghost use Rattle.sizes.specs.Capped.{Capped, Length-of, Measured};
@@ -23,7 +23,7 @@ use panel::gain_map::MaybeGainMap;
 use places::Places;
 use places::pictures::OptionPlaces;
 
-// ---- what the properties hold, beside the eight bytes that head each of them
+// ---- what the properties hold, beside the eight bytes that head each of them: a colr 11 bytes by code points, 4 and the profile by ICC
 
 // irot, imir and clli.
 fn turns_and_light_size(o: OptionPlaces) -> u32
@@ -115,14 +115,14 @@ fn tone_properties_size(tmap: Part, alternate: MaybeColorMetadata, icc: u32) -> 
 {
     match tmap {
         Part::Absent => 0,
-        // ispe and pixi hold 20 bytes.
+        // 12 of ispe, 8 of pixi
         Part::Present => 20 + alternate_size(alternate, icc),
     }
 }
 
 // The properties of the gain map, where there is one.
 fn gain_properties_size(gain: MaybeGainMap, hvcc: u32, icc: u32) -> u64
-    ensures { λ r. ⌜ ((l : Lent) → Length-of (l .gain-hvcc) hvcc → Length-of (l .alternate-icc) icc → Capped 4294967295 (8 * gain-association-count 0 (gain-of gain l) + r) (gain-properties-size (gain-of gain l))) ⌝ }
+    ensures { λ r. ⌜ ((l : Lent) → Length-of (l .gain-hvcc) hvcc → Length-of (l .alternate-icc) icc → Capped 4294967295 (8 * gain-property-count (gain-of gain l) + r) (gain-properties-size (gain-of gain l))) ⌝ }
     ensures { λ r. ⌜ r ≤ 12884902053 ⌝ }
 {
     match gain {
@@ -130,22 +130,13 @@ fn gain_properties_size(gain: MaybeGainMap, hvcc: u32, icc: u32) -> u64
         MaybeGainMap::Some(g) => {
             let tmap = g.tmap;
             let alternate = g.alternate_color;
-            // ispe, pixi, auxC and colr hold 73 bytes.
+            // 12 of ispe, 6 of pixi, 44 of auxC, 11 of colr
             73 + hvcc as u64 + tone_properties_size(tmap, alternate, icc)
         }
     }
 }
 
 // ---- ipco
-
-// The heads of so many properties.
-fn heads_size(count: u8) -> u32
-    requires { ⌜ count ≤ 127 ⌝ }
-    ensures { λ r. ⌜ r ≡ 8 * count ⌝ }
-    ensures { λ r. ⌜ r ≤ 1016 ⌝ }
-{
-    8 * count as u32
-}
 
 // ipco, the whole box: its head and one for each property, and what the properties hold.
 pub(crate) fn ipco_size(panel: Panel, z: Places, y: Lengths) -> u64
@@ -158,9 +149,9 @@ pub(crate) fn ipco_size(panel: Panel, z: Places, y: Lengths) -> u64
     let gain = panel.gain_map;
     let options = z.options;
     let g = y.gain;
-    // Its own head; then the two ispe, the two pixi and auxC, which are always there, hold 69 bytes.
-    8
-        + heads_size(z.count) as u64
+    let heads = 8 + 8 * z.count as u64;
+    // What is always there holds 69 bytes: 12 of each ispe, 8 and 6 of the two pixi, 31 of auxC.
+    heads
         + 69
         + y.color_hvcc as u64
         + y.alpha_hvcc as u64

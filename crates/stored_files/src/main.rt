@@ -6,6 +6,7 @@ mod names;
 
 use crate::lookups::print_lookups;
 use crate::names::write_names;
+use libc::STDOUT_FILENO;
 use panel::GridDims;
 use panel::Panel;
 use panel::color::Cicp;
@@ -80,6 +81,7 @@ fn full() -> Panel {
     }
 }
 
+// Writes the panel with every part, and the four bytes of the output behind its file.
 fn write_full() {
     let mut out = [0xEEu8; 1186];
     wrap_hevc_grid_with_alpha(
@@ -99,7 +101,7 @@ fn write_full() {
         &[0x61, 0x62],
         &mut out,
     );
-    io::write_all(1, &out);
+    io::write_all(STDOUT_FILENO, &out);
 }
 
 fn main() {

@@ -89,7 +89,7 @@ fn depths() {
     deep(BitDepth::Twelve);
 }
 
-// There are fewer primaries than matrices.
+// Each code point, three to a file; behind the last primaries stands Unspecified.
 fn colors() {
     colored(
         Primaries::Reserved,

@@ -28,7 +28,7 @@ use Rattle.isobmff.specs.Parts.{lent-props}
 use Rattle.places.specs.Roles.{its-of}
 use Rattle.isobmff.specs.Sections.{item-boxes, property-boxes}
 use Rattle.isobmff.proofs.Parts.{ipco-parts, mdat-parts}
-use Rattle.locations.specs.Payloads.{gain-lengths}
+use Rattle.locations.specs.Payloads.{payload-lengths}
 use Rattle.layout.specs.Plan.{Made-from}
 use Rattle.layout.specs.declared.FilePlan.{FilePlan}
 use Rattle.wrap.proofs.Ready.{even, color-sum, alpha-sum, same-associations, same-dims, same-tiles, same-alpha}
@@ -43,11 +43,11 @@ tone-sizes : (t : Option (List ℕ)) → map length (listed t) ≡ given (has t)
 tone-sizes none = refl
 tone-sizes (some t) = refl
 
-gain-sizes : (g : Option Gain) → map length (gain-payloads g) ≡ given (has g) (gain-lengths g .sample ∷ gain-lengths g .xmp ∷ []) ‖ given (has (tone-of g)) (gain-lengths g .tmap ∷ [])
+gain-sizes : (g : Option Gain) → map length (gain-payloads g) ≡ given (has g) (payload-lengths g .sample ∷ payload-lengths g .xmp ∷ []) ‖ given (has (tone-of g)) (payload-lengths g .tmap ∷ [])
 gain-sizes none = refl
 gain-sizes (some g) = ap (λ (r : List ℕ). length (g .sample) ∷ length (g .xmp) ∷ r) (tone-sizes (g .tone))
 
-other-lengths : (p : Panel) → map length (other-payloads p) ≡ other-sizes (shape p) (exif-size (p .metadata .exif)) (gain-lengths (p .gain))
+other-lengths : (p : Panel) → map length (other-payloads p) ≡ other-sizes (shape p) (exif-size (p .metadata .exif)) (payload-lengths (p .gain))
 other-lengths p =
     map-append length (exif-payload (p .metadata .exif)) (gain-payloads (p .gain)) ∙ (λ i. exif-sizes (p .metadata .exif) i ++ gain-sizes (p .gain) i)
 

@@ -93,11 +93,17 @@ fn one(mut panel: sys::Panel, named: bool, lent: &sys::Lent<'_>, room: &mut Room
     // Which length it is, other sets compare; here it is only that there is one.
     same_answer(if named { Ok(0) } else { Err(13) }, length.map(|_| 0))?;
     if !named {
-        let answer = raw::answer(sys::write(panel, lent, room.lend(2000)));
-        judge(Err(13), &[], answer, room)?;
+        // Also where the output is too short.
+        for size in [2000, 10] {
+            let answer = raw::answer(sys::write(panel, lent, room.lend(size)));
+            judge(Err(13), &[], answer, room)?;
+        }
     }
     panel.rows = 0;
-    same_answer(Err(if named { 1 } else { 13 }), raw::answer(sys::file_length(panel, lent)))
+    let expected = Err(if named { 1 } else { 13 });
+    same_answer(expected, raw::answer(sys::file_length(panel, lent)))?;
+    let answer = raw::answer(sys::write(panel, lent, room.lend(2000)));
+    judge(expected, &[], answer, room)
 }
 
 /// A null pointer with length 0 is an empty part.

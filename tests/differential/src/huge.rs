@@ -126,20 +126,23 @@ pub fn write(run: &mut Run) {
     if answer != Err(5) || out != [0x5A; 600] {
         run.fail("one byte more", "is not refused with 5, or touches the output", &case.dims);
     }
-    upstream_goes_on(&case);
+    upstream_goes_on(run, &case, u32::MAX);
     case.color_lengths[0] += 1;
     case.color_samples.push(0);
-    upstream_goes_on(&case);
+    upstream_goes_on(run, &case, 0);
 }
 
-/// Says what upstream writes for a panel like P whose file is too long: its length, and where iloc says that the alpha tile lies.
-fn upstream_goes_on(case: &Case) {
+/// What upstream writes for a panel like P whose file is too long, and where iloc then says that the alpha tile lies.
+fn upstream_goes_on(run: &mut Run, case: &Case, expected: u32) {
     let alpha_offset = 87 + 16 + 2 * 16 + 8; // iloc, its head, the entries of two items, and in the third what comes before the offset
     match crate::upstream::write(case) {
         Ok(theirs) => {
             let offset = theirs[alpha_offset..][..4].iter().fold(0u32, |n, byte| n << 8 | u32::from(*byte));
             println!("huge: upstream writes {} bytes, with the alpha tile at {offset}", theirs.len());
+            if offset != expected {
+                run.fail("upstream beyond the longest file", "has another offset", &offset);
+            }
         }
-        Err(why) => println!("huge: upstream: {why}"),
+        Err(why) => run.fail("upstream beyond the longest file", &why, &case.dims),
     }
 }

@@ -1,6 +1,6 @@
 //! What the specification says of a panel: the file's length, or the refusal. It follows the specification's text, not
-//! upstream's code, which refuses less; the length is the sum of shares that the change requests list. It looks at lengths
-//! alone, so that parts may be far too long to be written.
+//! upstream's code, which refuses less; the length is worked out by hand, as a sum of shares. It looks at lengths alone, so that
+//! parts may be far too long to be written.
 
 use kahopiru::{EncodedGainMap, Orientation, Panel, Samples};
 

@@ -43,7 +43,7 @@ returns c =
           let ipco = (c5 .ipco-size .ensures) .0 l m f in
           let iprp = iprp-capped w p ipco ipma in
           let exif = (c8 .part-size .ensures) .0 (l .exif) (m .exif) in
-          let payloads = (c9 .gain-payloads .ensures) l (m .gain) in
+          let payloads = (c9 .payload-lengths .ensures) l (m .gain) in
           record {
             ftyp = (c10 .ftyp-size .ensures) ∙ (λ i. 8 + ftyp-size (c i) (g i) (e i .tone));
             iloc = iloc;

@@ -13,7 +13,7 @@ returns c =
     let c2 = c3 .before .before .before .before in
     let c1 = c2 .before .before .before .before in
     let start = c1 .before .before .before .before .before in
-    told ((c1 .write-association-head .ensures) ▹ (c2 .write-run .ensures) ▹ (c3 .write-run2 .ensures)) (counted (form-of (start .args .form)) (start .args .id .0) _ (count-two (start .args .one) (start .args .two))) refl
+    told ((c1 .write-association-head .ensures) ▹ (c2 .write-run .ensures) ▹ (c3 .write-run2 .ensures)) (counted (form-of (start .args .form)) (start .args .id .0) _ (count-two (start .args .hvcc) (start .args .ispe))) refl
 
 pub write-alpha-tile-association-spec : {M : Type 1} → statement M
 write-alpha-tile-association-spec = tie.close (tie.spec (λ c. search needs) (λ c κs. search needs) (λ c κs. search needs) (λ c κs. search needs) (λ c. search needs) returns)

@@ -12,7 +12,7 @@ returns c =
     let c2 = c .before .before in
     let c1 = c2 .before .before .before .before in
     let start = c1 .before .before .before .before .before .before in
-    told ((c1 .write-association-head .ensures) ▹ (c2 .write-runs .ensures)) (counted (form-of (start .args .form)) (start .args .id .0) _ (count-three (start .args .one) (start .args .two) (start .args .three))) refl
+    told ((c1 .write-association-head .ensures) ▹ (c2 .write-runs .ensures)) (counted (form-of (start .args .form)) (start .args .id .0) _ (count-three (start .args .hvcc) (start .args .ispe) (start .args .colr))) refl
 
 pub write-color-tile-association-spec : {M : Type 1} → statement M
 write-color-tile-association-spec = tie.close (tie.spec (λ c. search needs) (λ c. search needs) (λ c κs. search needs) (λ c κs. search needs) (λ c. search needs) returns)

@@ -20,10 +20,10 @@ abbrev print : Form → Run → Run → Run → ℕ → List ℕ
 print f a b c id = association f (id with essential (places a) ‖ essential (places b) ‖ essential (places c))
 
 abbrev Inv-loop : tie.InvT-loop
-Inv-loop out₀ at form n one two three left₀ a₀ id₀ out left a id = Turn (print (form-of form) one two three) (form-of form .id + 1 + (one .count + (two .count + three .count))) out₀ at n id₀ out left a id
+Inv-loop out₀ at form n hvcc ispe colr left₀ a₀ id₀ out left a id = Turn (print (form-of form) hvcc ispe colr) (form-of form .id + 1 + (hvcc .count + (ispe .count + colr .count))) out₀ at n id₀ out left a id
 
 abbrev μ-loop : tie.MeasureT-loop
-μ-loop out₀ at form n one two three left₀ a₀ id₀ out left a id = left
+μ-loop out₀ at form n hvcc ispe colr left₀ a₀ id₀ out left a id = left
 
 loop-holds : tie.Need-loop-holds Inv-loop μ-loop
 loop-holds c = begun
@@ -45,7 +45,7 @@ same-length c =
 returns : tie.Need-returns Inv-loop μ-loop
 returns c =
     let start = c .before .before .before in
-    told (ended (c .before .loop .inv) (omega arith)) (sym (flatMap-map (association (form-of (start .args .form))) (λ id. id with essential (places (start .args .one)) ‖ essential (places (start .args .two)) ‖ essential (places (start .args .three))) (ids-from (start .args .first .0) (start .args .n)))) refl
+    told (ended (c .before .loop .inv) (omega arith)) (sym (flatMap-map (association (form-of (start .args .form))) (λ id. id with essential (places (start .args .hvcc)) ‖ essential (places (start .args .ispe)) ‖ essential (places (start .args .colr))) (ids-from (start .args .first .0) (start .args .n)))) refl
 
 pub write-color-tile-associations-spec : {M : Type 1} → statement M
 write-color-tile-associations-spec = tie.close (tie.spec Inv-loop μ-loop loop-holds write-color-tile-association-requires (λ c. omega arith) (λ c. omega arith) (λ c. omega arith) loop-again same-length returns)

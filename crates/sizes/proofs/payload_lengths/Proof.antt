@@ -11,8 +11,8 @@ use Rattle.panel.specs.declared.color.Part.the-variants.{Absent, Present}
 use Rattle.length.specs.Parts.{long}
 use Rattle.sizes.specs.Capped.{Capped, Length-of}
 use Rattle.sizes.proofs.Caps.{exact, renamed}
-use Rattle.sizes.proofs.gain_payloads.Statement.{statement}
-use Rattle.sizes.proofs.gain_payloads.Tie as tie
+use Rattle.sizes.proofs.payload_lengths.Statement.{statement}
+use Rattle.sizes.proofs.payload_lengths.Tie as tie
 
 if-present : (q : Part) (x : List ℕ) {n k : ℕ} → Length-of x n → k ≡ cond (has (part q x)) n 0 → Capped 4294967295 k (long (part q x))
 if-present Absent x h e = renamed exact e refl
@@ -31,5 +31,5 @@ returns-2 c =
     let tone = (c .when .ensures) .0 ∙ ap (λ (b : Bool). cond {A = ℕ} b (start .args .y .tmap) 0) ((c1 .is-present .ensures) (l .gain-tmap)) in
     rw (some .gain .given .1) (record { sample = m .sample; xmp = m .xmp; tmap = if-present (some .gain .given .0 .0 .tmap) (l .gain-tmap) (m .tmap) tone })
 
-pub gain-payloads-spec : {M : Type 1} → statement M
-gain-payloads-spec = tie.close (tie.spec (λ c. search needs) (λ c. search needs) (λ c κs. search needs) (λ c κs. search needs) returns returns-2)
+pub payload-lengths-spec : {M : Type 1} → statement M
+payload-lengths-spec = tie.close (tie.spec (λ c. search needs) (λ c. search needs) (λ c κs. search needs) (λ c κs. search needs) returns returns-2)
