@@ -20,11 +20,11 @@ use Rattle.panel.specs.declared.color.Part.the-variants.{Absent, Present}
 use Rattle.panel.specs.declared.gain_map.MaybeGainMap.{MaybeGainMap}
 use Rattle.panel.specs.declared.gain_map.MaybeGainMap.the-variants as G
 use Rattle.panel.proofs.Payloads.{flatten-samples, cut}
-use Rattle.length.specs.Properties.{gain-properties-size, ipco-size}
+use Rattle.length.specs.Properties.{colour-properties-size, alpha-properties-size, optional-properties-size, gain-properties-size, ipco-size}
 use Rattle.length.specs.Size.{exif-size, gain-data-size, mdat-size}
 use Rattle.length.proofs.Properties.{length-ipco}
 use Rattle.gain_map.specs.Parts.{with-properties, with-payloads}
-use Rattle.isobmff.specs.Parts.{lent-props, colour-properties, colour-properties-size, alpha-properties, alpha-properties-size, optional-properties, optional-properties-size}
+use Rattle.isobmff.specs.Parts.{lent-props, colour-properties, alpha-properties, optional-properties}
 
 -- ---- ipco
 
@@ -101,7 +101,7 @@ pub ipco-sum : (n : Numbers) (l : Lent)
     → let c = colour-of (n .«color_meta») (l .icc) in
     colour-properties-size (l .tiles .hvcc) c
     + (alpha-properties-size (l .alpha .hvcc)
-    + (optional-properties-size c (n .metadata) + gain-properties-size (with-properties (n .«gain_map») (l .gain-hvcc) (l .alternate-icc))))
+    + (optional-properties-size c (n .metadata .orientation) (light-of (n .metadata .«content_light_level»)) + gain-properties-size (with-properties (n .«gain_map») (l .gain-hvcc) (l .alternate-icc))))
     ≡ ipco-size (panel-of n (props l))
 unfolding panel-of
 ipco-sum n l = omega (arith, ap gain-properties-size (same-properties (n .«gain_map») l))

@@ -1,7 +1,6 @@
--- What ipco is made of: a lending with the properties' bytes alone, and the properties by picture and their sizes.
+-- What ipco is made of: a lending with the properties' bytes alone, and the properties by picture.
 use mathlib.Core.List.{List, [], _∷_}
-use Prim.Native.Nat.{ℕ, _+_}
-use lib.ListN.{length}
+use Prim.Native.Nat.{ℕ}
 use Rattle.octets.specs.Numbers.{_‖_}
 use Rattle.octets.specs.Boxes.{Box, box, optional}
 use Rattle.panel.specs.Types.{bits, irot-steps, imir-axis}
@@ -11,7 +10,6 @@ use Rattle.panel.specs.Ipco.{first-colr, second-colr, ispe, pixi, auxC, irot-pa
 use Rattle.panel.specs.declared.GridDims.{GridDims}
 use Rattle.panel.specs.declared.fmt.BitDepth.{BitDepth}
 use Rattle.panel.specs.declared.metadata.Metadata.{Metadata}
-use Rattle.length.specs.Properties.{first-colr-size, second-colr-size, irot-size, imir-size, clli-size}
 
 -- the two decoder configuration records, the profile, the gain map's record and its alternate profile
 abbrev pub lent-props : List ℕ → List ℕ → List ℕ → List ℕ → List ℕ → Lent
@@ -33,15 +31,9 @@ abbrev pub colour-properties : GridDims → BitDepth → List ℕ → Colour →
 colour-properties d depth hvcc c =
     box "hvcC" hvcc ∷ ispe (d .«tile_w») (d .«tile_h») ∷ ispe (d .«full_w») (d .«full_h») ∷ box "colr" (first-colr (c .cicp) (c .icc)) ∷ pixi 3 (bits depth) ∷ []
 
-abbrev pub colour-properties-size : List ℕ → Colour → ℕ
-colour-properties-size hvcc c = (8 + length hvcc) + (20 + (20 + (first-colr-size (c .cicp) (c .icc) + 16)))
-
 -- the alpha picture's
 abbrev pub alpha-properties : BitDepth → List ℕ → List Box
 alpha-properties depth hvcc = box "hvcC" hvcc ∷ pixi 1 (bits depth) ∷ auxC "urn:mpeg:hevc:2015:auxid:1" ∷ []
-
-abbrev pub alpha-properties-size : List ℕ → ℕ
-alpha-properties-size hvcc = (8 + length hvcc) + (14 + 39)
 
 -- those that may be absent
 abbrev pub optional-properties : Colour → Metadata → List Box
@@ -50,7 +42,3 @@ optional-properties c m =
     ‖ optional "irot" (irot-payload (irot-steps (m .orientation)))
     ‖ optional "imir" (imir-payload (imir-axis (m .orientation)))
     ‖ optional "clli" (clli-payload (light-of (m .«content_light_level»)))
-
-abbrev pub optional-properties-size : Colour → Metadata → ℕ
-optional-properties-size c m =
-    second-colr-size (c .cicp) (c .icc) + (irot-size (irot-steps (m .orientation)) + (imir-size (imir-axis (m .orientation)) + clli-size (light-of (m .«content_light_level»))))

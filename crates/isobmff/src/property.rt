@@ -7,11 +7,11 @@ ghost use lib.Dec.{eqb};
 ghost use lib.ListN.{length};
 ghost use Rattle.octets.specs.Stores.{Boxed};
 ghost use Rattle.panel.specs.Types.{bits, irot-steps};
-ghost use Rattle.panel.specs.Of.{colour-of, panel-of};
+ghost use Rattle.panel.specs.Of.{colour-of, light-of, panel-of};
 ghost use Rattle.panel.specs.Ipco.{pixi, tone-ispe, gain-slots, held, ipco};
-ghost use Rattle.length.specs.Properties.{gain-properties-size, ipco-size};
+ghost use Rattle.length.specs.Properties.{colour-properties-size, alpha-properties-size, optional-properties-size, gain-properties-size, ipco-size};
 ghost use Rattle.gain_map.specs.Parts.{with-properties};
-ghost use Rattle.isobmff.specs.Parts.{lent-props, colour-properties, colour-properties-size, alpha-properties, alpha-properties-size, optional-properties, optional-properties-size};
+ghost use Rattle.isobmff.specs.Parts.{lent-props, colour-properties, alpha-properties, optional-properties};
 use octets::write_box;
 use panel::GridDims;
 use panel::Panel;
@@ -71,9 +71,9 @@ fn write_optional_properties(
     icc: &[u8],
     metadata: Metadata,
 ) -> usize
-    requires { ⌜ at + optional-properties-size (colour-of color (now icc)) metadata ≤ length (now out) ⌝ }
-    requires { ⌜ optional-properties-size (colour-of color (now icc)) metadata < 4294967296 ⌝ }
-    ensures { λ r. ⌜ Boxed (now (out .entry)) at (optional-properties-size (colour-of color (now (icc .entry))) metadata) (optional-properties (colour-of color (now (icc .entry))) metadata) (now (out .exit)) r ⌝ }
+    requires { ⌜ at + optional-properties-size (colour-of color (now icc)) (metadata .orientation) (light-of (metadata .«content_light_level»)) ≤ length (now out) ⌝ }
+    requires { ⌜ optional-properties-size (colour-of color (now icc)) (metadata .orientation) (light-of (metadata .«content_light_level»)) < 4294967296 ⌝ }
+    ensures { λ r. ⌜ Boxed (now (out .entry)) at (optional-properties-size (colour-of color (now (icc .entry))) (metadata .orientation) (light-of (metadata .«content_light_level»))) (optional-properties (colour-of color (now (icc .entry))) metadata) (now (out .exit)) r ⌝ }
 {
     let orientation = metadata.orientation;
     let light = metadata.content_light_level;

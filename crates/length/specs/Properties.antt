@@ -81,14 +81,22 @@ abbrev pub gain-property-count : Option Gain → ℕ
 gain-property-count none = 0
 gain-property-count (some g) = 5 + cond (has (g .tone)) (2 + alternates-count (g .alternate)) 0
 
--- hvcC, two ispe, colr and pixi of the colour; hvcC, pixi and auxC of alpha; what is present of the second colr, irot, imir and clli
+-- hvcC, two ispe, colr and pixi of the colour picture
+abbrev pub colour-properties-size : List ℕ → Colour → ℕ
+colour-properties-size hvcc c = (8 + length hvcc) + (20 + (20 + (first-colr-size (c .cicp) (c .icc) + 16)))
+
+-- hvcC, pixi and auxC of the alpha picture
+abbrev pub alpha-properties-size : List ℕ → ℕ
+alpha-properties-size hvcc = (8 + length hvcc) + (14 + 39)
+
+-- what is present of the second colr, irot, imir and clli
+abbrev pub optional-properties-size : Colour → Orientation → Option ContentLightLevel → ℕ
+optional-properties-size c o light = second-colr-size (c .cicp) (c .icc) + (irot-size (irot-steps o) + (imir-size (imir-axis o) + clli-size light))
+
 abbrev pub ipco-size : Panel → ℕ
 ipco-size p =
-    (8 + length (p .tiles .hvcc)) + 20 + 20 + first-colr-size (p .colour .cicp) (p .colour .icc) + 16
-    + (8 + length (p .alpha .hvcc)) + 14 + 39
-    + second-colr-size (p .colour .cicp) (p .colour .icc)
-    + irot-size (irot-steps (p .metadata .orientation)) + imir-size (imir-axis (p .metadata .orientation)) + clli-size (p .metadata .light)
-    + gain-properties-size (p .gain)
+    colour-properties-size (p .tiles .hvcc) (p .colour)
+    + (alpha-properties-size (p .alpha .hvcc) + (optional-properties-size (p .colour) (p .metadata .orientation) (p .metadata .light) + gain-properties-size (p .gain)))
 
 -- ---- ipma
 

@@ -13,9 +13,7 @@ use Rattle.panel.specs.Items.{has, tone-of, shape, ids-from}
 use Rattle.panel.specs.Ipco
 use Rattle.panel.specs.Ipma.{positions}
 use Rattle.panel.specs.declared.Shape.{Shape}
-use Rattle.panel.specs.declared.color.Cicp.{Cicp}
-use Rattle.panel.specs.declared.metadata.ContentLightLevel.{ContentLightLevel}
-use Rattle.length.specs.Properties.{second-colr-count, alternates-count, irot-count, imir-count}
+use Rattle.length.specs.Properties.{second-colr-count, irot-count, imir-count}
 use Rattle.length.proofs.Properties.{length-optional, length-second-colr, length-alternates, length-clli}
 use Rattle.places.specs.Places.{Narrow-image, Narrow-tone, colour-at, alpha-at, options-at, Narrow-colour, Narrow-alpha, Narrow-options}
 use Rattle.gain_positions.specs.Positions.{image-at, tone-at, behind-image}
