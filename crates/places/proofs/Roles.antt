@@ -149,8 +149,11 @@ laid-of p s =
     (cond (s .tone) 1 0)
     (toned-alternates (p .gain))
 
-pub placed-of : (p : Panel) (s : Shape) (y : Places) → s ≡ shape p → y ≡ laid-of p s → Placed p y
-placed-of p s y hs hy =
+-- places that are these, part by part
+pub placed-of : (p : Panel) (s : Shape) (y : Places) → s ≡ shape p → y .color ≡ laid-of p s .color → y .alpha ≡ laid-of p s .alpha → y .options ≡ laid-of p s .options
+    → y .image ≡ laid-of p s .image → y .tone ≡ laid-of p s .tone → y .count ≡ laid-of p s .count → Placed p y
+placed-of p s y hs color alpha options image tone count =
+    let hy : y ≡ laid-of p s = λ i. record { color = color i; alpha = alpha i; options = options i; image = image i; tone = tone i; count = count i } in
     let b = placed p
     (sym (length-second-colr (p .colour .cicp) (p .colour .icc)))
     (sym (length-optional "irot" (Ipco.irot-payload (irot-steps (p .metadata .orientation)))))
