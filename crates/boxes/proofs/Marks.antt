@@ -1,22 +1,34 @@
--- Positions printed one by one are the positions.
+-- Positions as they are written, marked as essential or not, and the entries of ipma that they make.
 use mathlib.Core.Path.{_≡_, refl, sym, ap, _∙_}
 use mathlib.Core.Bool.{Bool, true, false, cond}
 use mathlib.Core.List.{List, [], _∷_, _++_, append-assoc, map, flatMap}
-use Prim.Native.Nat.{ℕ, _+_}
+use Prim.Native.Nat.{ℕ, suc, _+_, _≤_}
 use native.Mathlib.Nat.{zero-add}
+use native.Mathlib.Omega.{arith}
 use lib.ListN.{length, length-append, length-map}
 use Rattle.octets.specs.Numbers.{_‖_, be}
 use Rattle.octets.proofs.Lists.{flatMap-one}
-use Rattle.panel.specs.Items.{Form}
+use Rattle.octets.proofs.Numbers.{be-one}
+use Rattle.panel.specs.Items.{Form, ids-from}
 use Rattle.panel.specs.Ipma.{essential, _with_, association}
 use Rattle.panel.proofs.Ids.{length-ids-from}
 use Rattle.boxes.specs.Runs.{places, marked}
 use Rattle.boxes.specs.declared.association.Run.{Run}
 
-pub marked-print : (mark : ℕ) (l : List ℕ) → flatMap (λ k. (mark + k) ∷ []) l ≡ map (λ k. mark + k) l
-unfolding flatMap
-marked-print mark [] = refl
-marked-print mark (k ∷ l) = ap (λ (r : List ℕ). (mark + k) ∷ r) (marked-print mark l)
+-- a run of none, one or two positions
+module _ (mark first : ℕ) {count : ℕ} where
+  pub no-position : count ≡ 0 → [] ≡ map (λ k. mark + k) (ids-from first count)
+  no-position e = ap (λ (n : ℕ). map (λ k. mark + k) (ids-from first n)) (sym e)
+
+  pub one-position : mark + first ≤ 255 → count ≡ 1 → be 1 (mark + first) ≡ map (λ k. mark + k) (ids-from first count)
+  one-position h e = be-one (omega (arith, h)) ∙ ap (λ (n : ℕ). map (λ k. mark + k) (ids-from first n)) (sym e)
+
+  pub two-positions : mark + first + 1 ≤ 255 → count ≡ 2 → be 1 (mark + first) ++ be 1 (mark + first + 1) ≡ map (λ k. mark + k) (ids-from first count)
+  two-positions h e =
+      let next : mark + first + 1 ≡ mark + suc first = omega arith in
+      (λ i. be-one {n = mark + first} (omega (arith, h)) i ++ be-one {n = mark + first + 1} (omega (arith, h)) i)
+      ∙ ap (λ (n : ℕ). (mark + first) ∷ n ∷ []) next
+      ∙ ap (λ (n : ℕ). map (λ k. mark + k) (ids-from first n)) (sym e)
 
 -- no mark
 unmarked : (l : List ℕ) → map (λ k. 0 + k) l ≡ l

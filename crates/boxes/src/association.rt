@@ -23,21 +23,21 @@ pub struct Run {
     pub count: u8,
 }
 
-// Writes the positions of a run, each with `mark` added.
+// Writes the positions of a run, of which there are at most two, each with `mark` added.
 fn write_marked(out: &mut [u8], at: usize, run: Run, mark: u8) -> usize
     requires { ⌜ at + run .count ≤ length (now out) ⌝ }
     requires { ⌜ mark + (run .first .0 + run .count) ≤ 255 ⌝ }
+    requires { ⌜ run .count ≤ 2 ⌝ }
     ensures { λ r. ⌜ Wrote (now (out .entry)) at (run .count) (map (λ k. mark + k) (places run)) (now (out .exit)) r ⌝ }
 {
-    let mut left = run.count;
-    let mut a = at;
-    let mut position = run.first.0;
-    while 0 < left {
-        a = w8(out, a, mark + position);
-        position += 1;
-        left -= 1;
+    if run.count < 1 {
+        return at;
     }
-    a
+    let a = w8(out, at, mark + run.first.0);
+    if run.count < 2 {
+        return a;
+    }
+    w8(out, a, mark + run.first.0 + 1)
 }
 
 // The bit that marks an association as essential.

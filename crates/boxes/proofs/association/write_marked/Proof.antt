@@ -1,36 +1,37 @@
--- Each turn writes one position more.
+-- None, one or two positions.
+use borrow.Author.Needs.{needs}
 use native.Mathlib.Omega.{arith}
-use mathlib.Core.Path.{refl}
-use Rattle.octets.proofs.Stores.{told}
-use Rattle.boxes.proofs.Loops.{Turn, begun, turned, ended}
-use Prim.Native.Nat.{_+_}
-use mathlib.Core.List.{[], _∷_}
-use Rattle.octets.proofs.Numbers.{be-one}
-use Rattle.boxes.proofs.Marks.{marked-print}
+use mathlib.Core.Path.{_≡_}
+use Rattle.octets.proofs.Stores.{_▹_, told, nothing, kept}
+use Rattle.boxes.proofs.Marks.{no-position, one-position, two-positions}
 use Rattle.boxes.proofs.association.write_marked.Statement.{statement}
 use Rattle.boxes.proofs.association.write_marked.Tie as tie
 
-abbrev Inv-loop : tie.InvT-loop
-Inv-loop out₀ at mark left₀ a₀ position₀ out left a position = Turn (λ k. (mark + k) ∷ []) 1 out₀ at left₀ position₀ out left a position
-
-abbrev μ-loop : tie.MeasureT-loop
-μ-loop out₀ at mark left₀ a₀ position₀ out left a position = left
-
-loop-holds : tie.Need-loop-holds Inv-loop μ-loop
-loop-holds c = begun
-
-loop-again : tie.Need-loop-again Inv-loop μ-loop
-loop-again c =
-    let c1 = c .before .before in
-    turned (c .before .before .before .before .before .loop .inv) (c .before .before .before .before .loop-test .taken) (told (c1 .w8 .ensures) (be-one (omega arith)) refl)
-
-same-length : tie.Need-same-length Inv-loop μ-loop
-same-length c =
-    c .before .loop .inv .len
-
-returns : tie.Need-returns Inv-loop μ-loop
+returns : tie.Need-returns
 returns c =
-    told (ended (c .before .loop .inv) (omega arith)) (marked-print _ _) (omega arith)
+    let run = c .before .before .before .args .run in
+    let none : run .count ≡ 0 = omega arith in
+    told nothing (no-position _ (run .first .0) none) (omega arith)
+
+same-length : tie.Need-same-length
+same-length c =
+    let c1 = c .before .before .before .before in
+    kept (c1 .w8 .ensures)
+
+returns-2 : tie.Need-returns-2
+returns-2 c =
+    let c1 = c .before .before .before .before in
+    let run = c1 .before .before .before .before .before .before .args .run in
+    let one : run .count ≡ 1 = omega arith in
+    told (c1 .w8 .ensures) (one-position _ (run .first .0) (omega arith) one) (omega arith)
+
+returns-3 : tie.Need-returns-3
+returns-3 c =
+    let c2 = c .before .before in
+    let c1 = c2 .before .before .before .before .before .before .before in
+    let run = c1 .before .before .before .before .before .before .args .run in
+    let two : run .count ≡ 2 = omega arith in
+    told ((c1 .w8 .ensures) ▹ (c2 .w82 .ensures)) (two-positions _ (run .first .0) (omega arith) two) (omega arith)
 
 pub write-marked-spec : {M : Type 1} → statement M
-write-marked-spec = tie.close (tie.spec Inv-loop μ-loop loop-holds (λ c. omega arith) (λ c κs. omega arith) (λ c. omega arith) (λ c. omega arith) (λ c. omega arith) loop-again same-length returns)
+write-marked-spec = tie.close (tie.spec returns (λ c. search needs) (λ c κs. search needs) same-length returns-2 (λ c. search needs) (λ c. search needs) (λ c κs. search needs) (λ c. search needs) returns-3)
