@@ -2,17 +2,17 @@
 use mathlib.Core.Path.{_≡_, refl}
 use mathlib.Core.Bool.{Bool, true, _&&_}
 use mathlib.Core.Option.{Option, none, some, bind, Option·getD as or}
-use Rattle.panel.specs.Items.{has}
+use Rattle.panel.specs.Parts.{has}
 use Rattle.panel.specs.Codes.{primaries-named, transfer-named, matrix-named}
+use Rattle.panel.specs.Types.{unspecified}
 use Rattle.panel.specs.declared.color.Primaries.{Primaries}
 use Rattle.panel.specs.declared.color.TransferFunction.{TransferFunction}
 use Rattle.panel.specs.declared.color.MatrixCoefficients.{MatrixCoefficients}
 use Rattle.panel.specs.declared.color.Cicp.{Cicp}
-use Rattle.panel.specs.Agreement.{unspecified}
-use Rattle.codes.specs.Codes.{yes-no, cicp-named}
-use Rattle.interface.specs.declared.CicpCodes.{CicpCodes}
-use Rattle.numbers.specs.Values.{cicp-value}
-use Rattle.numbers.specs.Known.{cicp-known}
+use Rattle.panel_codes.specs.Codes.{yes-no, cicp-named}
+use Rattle.c_types.specs.declared.CicpCodes.{CicpCodes}
+use Rattle.c_numbers.specs.Values.{cicp-value}
+use Rattle.c_numbers.specs.Known.{cicp-known}
 
 abbrev chain : Option Primaries → Option TransferFunction → Option MatrixCoefficients → Option Bool → Option Cicp
 chain p t m r =

@@ -2,12 +2,12 @@
 -- of an absent part are not looked at; those of an alternate colour that is there are, with a tone map or without.
 use mathlib.Core.Bool.{Bool, not, _&&_, _||_}
 use lib.Dec.{eqb}
-use Rattle.codes.specs.Codes.{is-code}
-use Rattle.codes.specs.declared.CodeKind.the-variants.{Depth, Orientation, YesNo, Primaries, Transfer, Matrix}
-use Rattle.interface.specs.declared.CicpCodes.{CicpCodes}
-use Rattle.interface.specs.declared.ColorCodes.{ColorCodes}
-use Rattle.interface.specs.declared.GainCodes.{GainCodes}
-use Rattle.interface.specs.declared.PanelCodes.{PanelCodes}
+use Rattle.panel_codes.specs.Codes.{is-code}
+use Rattle.panel_codes.specs.declared.CodeKind.the-variants.{Depth, Orientation, YesNo, Primaries, Transfer, Matrix}
+use Rattle.c_types.specs.declared.CicpCodes.{CicpCodes}
+use Rattle.c_types.specs.declared.ColorCodes.{ColorCodes}
+use Rattle.c_types.specs.declared.GainCodes.{GainCodes}
+use Rattle.c_types.specs.declared.PanelCodes.{PanelCodes}
 
 -- of a part that may be absent
 abbrev pub known-if : Bool → Bool → Bool

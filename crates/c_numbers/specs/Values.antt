@@ -3,7 +3,7 @@
 use mathlib.Core.Bool.{cond}
 use mathlib.Core.Option.{Option·getD as or}
 use lib.Dec.{eqb}
-use Rattle.panel.specs.Agreement.{unspecified}
+use Rattle.panel.specs.Types.{unspecified}
 use Rattle.panel.specs.declared.color.Cicp.{Cicp}
 use Rattle.panel.specs.declared.color.MaybeCicp.the-variants as C
 use Rattle.panel.specs.declared.color.ColorMetadata.{ColorMetadata}
@@ -15,12 +15,12 @@ use Rattle.panel.specs.declared.metadata.MaybeLightLevel.the-variants as L
 use Rattle.panel.specs.declared.metadata.Metadata.{Metadata}
 use Rattle.panel.specs.declared.metadata.Orientation.the-variants.{Normal}
 use Rattle.panel.specs.declared.Panel.{Panel as Numbers}
-use Rattle.codes.specs.Codes.{depth-named, orientation-named, part-if, cicp-named}
-use Rattle.interface.specs.Plain.{dims-value, light-value}
-use Rattle.interface.specs.declared.CicpCodes.{CicpCodes}
-use Rattle.interface.specs.declared.ColorCodes.{ColorCodes}
-use Rattle.interface.specs.declared.GainCodes.{GainCodes}
-use Rattle.interface.specs.declared.PanelCodes.{PanelCodes}
+use Rattle.panel_codes.specs.Codes.{depth-named, orientation-named, part-if, cicp-named}
+use Rattle.c_types.specs.Plain.{dims-value, light-value}
+use Rattle.c_types.specs.declared.CicpCodes.{CicpCodes}
+use Rattle.c_types.specs.declared.ColorCodes.{ColorCodes}
+use Rattle.c_types.specs.declared.GainCodes.{GainCodes}
+use Rattle.c_types.specs.declared.PanelCodes.{PanelCodes}
 
 abbrev pub cicp-value : CicpCodes → Cicp
 cicp-value c = or (cicp-named (c .primaries) (c .transfer) (c .matrix) (c .«full_range»)) unspecified

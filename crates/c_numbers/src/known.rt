@@ -1,12 +1,12 @@
 // Whether each code of a panel that is looked at stands for something, part by part. The codes of an absent part are not looked at.
 ghost use mathlib.Core.Path.{_≡_};
-ghost use Rattle.numbers.specs.Known.{known-if, cicp-known, colour-known, gain-known, panel-known};
-use codes::CodeKind;
-use codes::is_code;
-use interface::CicpCodes;
-use interface::ColorCodes;
-use interface::GainCodes;
-use interface::PanelCodes;
+ghost use Rattle.c_numbers.specs.Known.{known-if, cicp-known, colour-known, gain-known, panel-known};
+use c_types::CicpCodes;
+use c_types::ColorCodes;
+use c_types::GainCodes;
+use c_types::PanelCodes;
+use panel_codes::CodeKind;
+use panel_codes::is_code;
 
 // Whether a part that may be absent is known: it is absent, or its codes are.
 fn known_if(present: bool, known: bool) -> bool

@@ -1,21 +1,12 @@
 // The numbers that codes stand for, part by part. A part is there where its byte is 1.
 ghost use mathlib.Core.Path.{_≡_};
-ghost use Rattle.numbers.specs.Values.{cicp-value, colour-value, gain-value, metadata-value, panel-value};
-use codes::cicp_named;
-use codes::depth_named;
-use codes::optional::alternate_if;
-use codes::optional::cicp_if;
-use codes::optional::gain_if;
-use codes::optional::light_if;
-use codes::optional::part_if;
-use codes::or_unspecified;
-use codes::orientation_named;
-use interface::CicpCodes;
-use interface::ColorCodes;
-use interface::GainCodes;
-use interface::PanelCodes;
-use interface::dims_value;
-use interface::light_value;
+ghost use Rattle.c_numbers.specs.Values.{cicp-value, colour-value, gain-value, metadata-value, panel-value};
+use c_types::CicpCodes;
+use c_types::ColorCodes;
+use c_types::GainCodes;
+use c_types::PanelCodes;
+use c_types::dims_value;
+use c_types::light_value;
 use panel::Panel;
 use panel::color::Cicp;
 use panel::color::ColorMetadata;
@@ -25,6 +16,15 @@ use panel::gain_map::EncodedGainMap;
 use panel::gain_map::MaybeGainMap;
 use panel::metadata::MaybeLightLevel;
 use panel::metadata::Metadata;
+use panel_codes::cicp_named;
+use panel_codes::depth_named;
+use panel_codes::optional::alternate_if;
+use panel_codes::optional::cicp_if;
+use panel_codes::optional::gain_if;
+use panel_codes::optional::light_if;
+use panel_codes::optional::part_if;
+use panel_codes::or_unspecified;
+use panel_codes::orientation_named;
 
 // Each function that ends in value gives the numbers of its part, whatever the codes.
 fn cicp_value(c: CicpCodes) -> Cicp

@@ -1,7 +1,7 @@
 -- The numbers of a panel that are no codes: its tile grid, and its light level.
 use Rattle.panel.specs.declared.GridDims.{GridDims}
 use Rattle.panel.specs.declared.metadata.ContentLightLevel.{ContentLightLevel}
-use Rattle.interface.specs.declared.PanelCodes.{PanelCodes}
+use Rattle.c_types.specs.declared.PanelCodes.{PanelCodes}
 
 abbrev pub dims-value : PanelCodes → GridDims
 dims-value c = record { cols = c .cols; rows = c .rows; «tile_w» = c .«tile_w»; «tile_h» = c .«tile_h»; «full_w» = c .«full_w»; «full_h» = c .«full_h» }

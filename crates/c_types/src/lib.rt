@@ -1,8 +1,8 @@
 // What crosses to C: a panel as numbers and codes, and what a call answers; and what is read off a panel without looking a code up.
 ghost use mathlib.Core.Path.{_≡_};
-ghost use Rattle.panel.specs.Answer.{refused};
-ghost use Rattle.interface.specs.Told.{told};
-ghost use Rattle.interface.specs.Plain.{dims-value, light-value};
+ghost use Rattle.panel.specs.Outcome.{refused};
+ghost use Rattle.c_types.specs.Told.{told};
+ghost use Rattle.c_types.specs.Plain.{dims-value, light-value};
 use panel::GridDims;
 use panel::metadata::ContentLightLevel;
 

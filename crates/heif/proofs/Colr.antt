@@ -1,32 +1,24 @@
--- Payloads of properties say what they are made of: colour, orientation, light level, sizes.
+-- colr tells the colour that is stated, and an alternate one; and how many there are and how long.
 use mathlib.Core.Path.{_≡_, refl, sym, ap, _∙_}
 use mathlib.Core.Bool.{Bool, true, false, cond}
 use mathlib.Core.Option.{Option, none, some}
 use mathlib.Core.List.{List, [], _∷_}
-use Prim.Native.Nat.{ℕ, _+_, _*_, _^_, _<_}
+use Prim.Native.Nat.{ℕ, _+_}
 use native.Mathlib.Omega.{arith}
 use lib.ListN.{length, getD}
 use Rattle.octets.specs.Numbers.{_‖_, be, text}
-use Rattle.octets.specs.Boxes.{Box, box, optional}
+use Rattle.octets.specs.Boxes.{Box, box, optional, boxes}
 use Rattle.octets.proofs.Lists.{cancel}
-use Rattle.octets.proofs.Numbers.{cancel-be}
-use Rattle.octets.proofs.Boxes.{body-at}
-use Rattle.panel.specs.Types.{primaries-code, transfer-code, matrix-code, irot-steps, imir-axis}
-use Rattle.panel.specs.Codes.{named}
+use Rattle.octets.proofs.Boxes.{body-at, length-none, length-boxes}
+use Rattle.panel.specs.Types.{primaries-code, transfer-code, matrix-code, unspecified}
 use Rattle.panel.specs.Panel.{Colour}
-use Rattle.panel.specs.Agreement.{unspecified, stated, filled, shown}
-use Rattle.panel.specs.Widths.{Of, Light-fits}
-use Rattle.panel.specs.Ipco.{nclx-payload, first-colr, second-colr, alternate-colrs, alternates, ispe, irot-payload, imir-payload, clli-payload}
+use Rattle.panel.specs.Agreement.{stated, filled, shown}
+use Rattle.panel.specs.Parts.{has}
 use Rattle.panel.specs.declared.color.Cicp.{Cicp}
-use Rattle.panel.specs.declared.metadata.ContentLightLevel.{ContentLightLevel}
-use Rattle.panel.specs.declared.metadata.Orientation.{Orientation}
-use Rattle.panel.specs.declared.metadata.Orientation.the-variants.{Normal, FlipH, Rotate180, FlipV, Transpose, Rotate90, Transverse, Rotate270}
-use Rattle.panel.proofs.Codes.{some-inj, code-inj, primaries-inj, transfer-inj, matrix-inj}
-
--- ---- options of bytes
-
-none-some : {x : List ℕ} → none ≡ some x → ⊥
-none-some e = let z : _≡_ {A = ℕ} 0 1 = cc in omega arith
+use Rattle.panel.proofs.Parts.{some-inj, none-some}
+use Rattle.panel.proofs.Codes.{primaries-inj, transfer-inj, matrix-inj}
+use Rattle.heif.specs.Colr.{nclx-payload, first-colr, second-colr, alternate-colrs, alternates, first-colr-size, second-colr-count}
+use Rattle.heif.specs.Colr.{second-colr-size, alternates-count, stated-size, alternates-size}
 
 -- ---- colour
 
@@ -129,47 +121,39 @@ alternates-inj t u a b e =
     ∙ alternate-inj (cicp-in a) (cicp-in b) (icc-in a) (icc-in b) (sym (alternates-parts a) ∙ e ∙ alternates-parts b)
     ∙ sym (shown-parts u b)
 
--- ---- orientation
+-- ---- how many, and how many bytes
 
--- the first byte, or d where there is none
-lead : ℕ → Option (List ℕ) → ℕ
-lead d none = d
-lead d (some x) = getD x 0 0
+pub length-first-colr : (c : Option Cicp) (i : Option (List ℕ)) → 8 + length (first-colr c i) ≡ first-colr-size c i
+length-first-colr (some c) i = refl
+length-first-colr none (some i) = omega arith
+length-first-colr none none = refl
 
-turn-code : Orientation → ℕ
-turn-code o = 4 * lead 0 (irot-payload (irot-steps o)) + lead 2 (imir-payload (imir-axis o))
+pub length-second-colr : (c : Option Cicp) (i : Option (List ℕ)) → length (optional "colr" (second-colr c i)) ≡ second-colr-count c i
+length-second-colr (some c) none = refl
+length-second-colr (some c) (some i) = refl
+length-second-colr none i = refl
 
-turn-table : List Orientation
-turn-table = Normal ∷ FlipH ∷ Rotate180 ∷ FlipV ∷ Transpose ∷ Rotate90 ∷ Transverse ∷ Rotate270 ∷ []
+pub length-boxes-second-colr : (c : Option Cicp) (i : Option (List ℕ)) → length (boxes (optional "colr" (second-colr c i))) ≡ second-colr-size c i
+length-boxes-second-colr (some c) none = length-none
+length-boxes-second-colr (some c) (some i) = simp (length-boxes, length-none) (omega arith)
+length-boxes-second-colr none i = length-none
 
-turn-found : (o : Orientation) → named turn-code turn-table (turn-code o) ≡ some o
-unfolding turn-code turn-table lead
-turn-found Normal = refl
-turn-found FlipH = refl
-turn-found Rotate180 = refl
-turn-found FlipV = refl
-turn-found Transpose = refl
-turn-found Rotate90 = refl
-turn-found Transverse = refl
-turn-found Rotate270 = refl
+pub length-alternates : (a : Option Colour) → length (alternates a) ≡ alternates-count a
+length-alternates none = refl
+length-alternates (some a) = stated (a .cicp) (a .icc)
+  where
+    stated : (c : Option Cicp) (i : Option (List ℕ)) → length (alternate-colrs c i) ≡ cond (has c) 1 0 + cond (has i) 1 0
+    stated (some c) none = refl
+    stated (some c) (some i) = refl
+    stated none (some i) = refl
+    stated none none = refl
 
-pub orientation-inj : (o u : Orientation) → irot-payload (irot-steps o) ≡ irot-payload (irot-steps u) → imir-payload (imir-axis o) ≡ imir-payload (imir-axis u) → o ≡ u
-unfolding turn-code
-orientation-inj o u r m = code-inj turn-code turn-table turn-found o u (λ i. 4 * lead 0 (r i) + lead 2 (m i))
-
--- ---- light level, sizes
-
-pub light-inj : (a b : Option ContentLightLevel) → Of Light-fits a → Of Light-fits b → clli-payload a ≡ clli-payload b → a ≡ b
-light-inj none none ha hb e = refl
-light-inj none (some y) ha hb e = absurd (none-some e)
-light-inj (some x) none ha hb e = absurd (none-some (sym e))
-light-inj (some x) (some y) ha hb e =
-    let c = cancel-be 2 (ha .content) (hb .content) (some-inj e) in
-    let a = cancel-be 2 {x = []} {y = []} (ha .average) (hb .average) (c .1) in
-    λ i. some (record { «max_content_light_level» = c .0 i; «max_pic_average_light_level» = a .0 i })
-
-pub ispe-inj : {w h v k : ℕ} → w < 2 ^ 32 → h < 2 ^ 32 → v < 2 ^ 32 → k < 2 ^ 32 → ispe w h .body ≡ ispe v k .body → (w ≡ v) × (h ≡ k)
-ispe-inj hw hh hv hk e =
-    let x = cancel-be 4 hw hv (cancel (be 4 0) (be 4 0) refl e .1) in
-    let y = cancel-be 4 {x = []} {y = []} hh hk (x .1) in
-    (x .0, y .0)
+pub length-boxes-alternates : (a : Option Colour) → length (boxes (alternates a)) ≡ alternates-size a
+length-boxes-alternates none = length-none
+length-boxes-alternates (some a) = stated (a .cicp) (a .icc)
+  where
+    stated : (c : Option Cicp) (i : Option (List ℕ)) → length (boxes (alternate-colrs c i)) ≡ stated-size c i
+    stated (some c) none = simp (length-boxes, length-none)
+    stated (some c) (some i) = simp (length-boxes, length-none) (omega arith)
+    stated none (some i) = simp (length-boxes, length-none) (omega arith)
+    stated none none = length-none

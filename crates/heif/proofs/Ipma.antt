@@ -1,107 +1,33 @@
--- The lengths of the bodies of ipco and ipma: how many boxes stand in each role and how long they are, and how many positions each item names.
+-- The length of ipma: how many items it names, and how many positions each.
 use mathlib.Core.Path.{_≡_, refl, ap, _∙_}
-use mathlib.Core.Bool.{Bool, cond}
+use mathlib.Core.Bool.{cond}
 use mathlib.Core.Option.{Option, none, some}
-use mathlib.Core.List.{List, [], _∷_, map, flatMap, append-nil}
-use Prim.Native.Nat.{ℕ, zero, suc, _+_, _*_}
-use Prim.Native.String.{String}
-use native.Mathlib.Nat.{zero-mul, suc-mul}
+use mathlib.Core.List.{List, [], _∷_, map, flatMap}
+use Prim.Native.Nat.{ℕ, _+_, zero, suc, _*_}
 use native.Mathlib.Omega.{arith}
+use native.Mathlib.Nat.{zero-mul, suc-mul}
 use lib.ListN.{length, length-append, length-map}
 use Rattle.octets.specs.Numbers.{_‖_, total}
-use Rattle.octets.specs.Boxes.{Box, optional, boxes}
+use Rattle.octets.specs.Boxes.{Box}
 use Rattle.octets.proofs.Numbers.{length-be}
-use Rattle.octets.proofs.Boxes.{length-none, length-boxes, length-boxes-append}
-use Rattle.panel.specs.Panel.{Colour, Gain, Panel}
-use Rattle.panel.specs.Items.{Form, has, given, shape, colour-grid, alpha-tile, alpha-grid}
-use Rattle.panel.specs.Ipco
-use Rattle.panel.specs.Ipco.{first-colr, second-colr, alternate-colrs, alternates, irot-payload, imir-payload, clli-payload, ispe, pixi, tone-slots, gain-slots, slots, held, ipco}
-use Rattle.panel.specs.Ipma.{positions, essential, Association, _with_, each, gain-associations, associations, association, ipma}
-use Rattle.panel.specs.declared.color.Cicp.{Cicp}
-use Rattle.panel.specs.declared.metadata.ContentLightLevel.{ContentLightLevel}
-use Rattle.panel.proofs.Ids.{length-ids-from}
-use Rattle.length.specs.Properties.{first-colr-size, second-colr-count, second-colr-size, alternates-count, stated-size, alternates-size}
-use Rattle.length.specs.Properties.{turn-count, irot-size, imir-size, clli-size, tone-properties-size, gain-properties-size, ipco-size}
-use Rattle.length.specs.Properties.{associated-items, gain-association-count, association-count, ipma-size}
-use Rattle.length.proofs.Items.{length-associations}
+use Rattle.panel.specs.Panel.{Gain, Panel, Colour}
+use Rattle.panel.specs.Form.{Form}
+use Rattle.panel.specs.Parts.{has, given}
+use Rattle.panel.specs.declared.Shape.{Shape}
+use Rattle.panel.proofs.Parts.{length-optional}
+use Rattle.heif.specs.Items.{shape, colour-grid, alpha-tile, alpha-grid}
+use Rattle.heif.specs.Ipco
+use Rattle.heif.specs.Ipco.{Role, tone-slots, slots}
+use Rattle.heif.specs.Ipma.{associations, associated-items, positions, essential, Association, _with_, each, gain-associations}
+use Rattle.heif.specs.Ipma.{association, ipma, turn-count, gain-association-count, association-count, ipma-size}
+use Rattle.heif.specs.Colr.{second-colr-count, alternates-count}
+use Rattle.heif.proofs.Items.{length-ids-from, length-given}
+use Rattle.heif.proofs.Colr.{length-second-colr, length-alternates}
+use Rattle.heif.proofs.Clli.{length-clli}
 
--- ---- the boxes of a role
-
-pub length-optional : (s : String) (a : Option (List ℕ)) → length (optional s a) ≡ cond (has a) 1 0
-length-optional s none = refl
-length-optional s (some x) = refl
-
-length-first-colr : (c : Option Cicp) (i : Option (List ℕ)) → 8 + length (first-colr c i) ≡ first-colr-size c i
-length-first-colr (some c) i = refl
-length-first-colr none (some i) = omega arith
-length-first-colr none none = refl
-
-pub length-second-colr : (c : Option Cicp) (i : Option (List ℕ)) → length (optional "colr" (second-colr c i)) ≡ second-colr-count c i
-length-second-colr (some c) none = refl
-length-second-colr (some c) (some i) = refl
-length-second-colr none i = refl
-
-length-boxes-second-colr : (c : Option Cicp) (i : Option (List ℕ)) → length (boxes (optional "colr" (second-colr c i))) ≡ second-colr-size c i
-length-boxes-second-colr (some c) none = length-none
-length-boxes-second-colr (some c) (some i) = simp (length-boxes, length-none) (omega arith)
-length-boxes-second-colr none i = length-none
-
-pub length-alternates : (a : Option Colour) → length (alternates a) ≡ alternates-count a
-length-alternates none = refl
-length-alternates (some a) = stated (a .cicp) (a .icc)
-  where
-    stated : (c : Option Cicp) (i : Option (List ℕ)) → length (alternate-colrs c i) ≡ cond (has c) 1 0 + cond (has i) 1 0
-    stated (some c) none = refl
-    stated (some c) (some i) = refl
-    stated none (some i) = refl
-    stated none none = refl
-
-length-boxes-alternates : (a : Option Colour) → length (boxes (alternates a)) ≡ alternates-size a
-length-boxes-alternates none = length-none
-length-boxes-alternates (some a) = stated (a .cicp) (a .icc)
-  where
-    stated : (c : Option Cicp) (i : Option (List ℕ)) → length (boxes (alternate-colrs c i)) ≡ stated-size c i
-    stated (some c) none = simp (length-boxes, length-none)
-    stated (some c) (some i) = simp (length-boxes, length-none) (omega arith)
-    stated none (some i) = simp (length-boxes, length-none) (omega arith)
-    stated none none = length-none
-
-length-boxes-irot : (k : ℕ) → length (boxes (optional "irot" (irot-payload k))) ≡ irot-size k
-length-boxes-irot zero = length-none
-length-boxes-irot (suc k) = simp (length-boxes, length-none)
-
-length-boxes-imir : (a : Option Bool) → length (boxes (optional "imir" (imir-payload a))) ≡ imir-size a
-length-boxes-imir none = length-none
-length-boxes-imir (some a) = simp (length-boxes, length-none)
-
-pub length-clli : (l : Option ContentLightLevel) → length (optional "clli" (clli-payload l)) ≡ cond (has l) 1 0
-length-clli none = refl
-length-clli (some l) = refl
-
-length-boxes-clli : (l : Option ContentLightLevel) → length (boxes (optional "clli" (clli-payload l))) ≡ clli-size l
-length-boxes-clli none = length-none
-length-boxes-clli (some l) = simp (length-boxes, length-none)
-
--- ---- ipco
-
--- whatever the size and the depth that the tone map's properties state
-module _ (w h depth : ℕ) where
-  length-boxes-tone-slots : (t : Option (List ℕ)) (a : Option Colour)
-      → length (boxes (held (tone-slots (ispe w h) (pixi 3 depth) t a))) ≡ tone-properties-size t a
-  length-boxes-tone-slots none a = length-none
-  length-boxes-tone-slots (some t) a = simp (length-boxes, append-nil, length-boxes-alternates) (omega arith)
-
-  length-boxes-gain-slots : (g : Option Gain) → length (boxes (held (gain-slots (ispe w h) (pixi 3 depth) g))) ≡ gain-properties-size g
-  length-boxes-gain-slots none = length-none
-  length-boxes-gain-slots (some g) = simp (length-boxes, length-boxes-tone-slots) (omega arith)
-
-pub length-ipco : (p : Panel) → length (ipco p .body) ≡ ipco-size p
-length-ipco p =
-    simp
-    (length-boxes, length-boxes-append, length-boxes-second-colr, length-boxes-irot, length-boxes-imir, length-boxes-clli, length-boxes-gain-slots)
-    (omega (arith, length-first-colr (p .colour .cicp) (p .colour .icc)))
-
--- ---- ipma
+-- whatever positions the roles have
+pub length-associations : (s : Shape) (its : Role → List ℕ) → length (associations s its) ≡ associated-items s
+length-associations s its = simp (length-append, length-map, length-ids-from, length-given) (omega arith)
 
 -- how many properties an item has
 abbrev pub width : Association → ℕ

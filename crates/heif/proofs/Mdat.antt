@@ -1,31 +1,70 @@
--- How many items a file has: iloc and iinf have as many entries as the last id says, and ipma has one for each item that has properties.
-use mathlib.Core.Path.{_≡_, refl, ap, _∙_}
+-- The samples are made by their lengths and bytes, and make them; the payloads in mdat tell the Exif; and how many bytes they have.
+use mathlib.Core.Path.{_≡_, refl, sym, ap, ap₂, _∙_}
 use mathlib.Core.Bool.{cond}
 use mathlib.Core.Option.{Option, none, some}
-use mathlib.Core.List.{List}
-use Prim.Native.Nat.{ℕ, _+_}
+use mathlib.Core.List.{List, [], _∷_, _++_, map, map-append, flatten}
+use Prim.Native.Nat.{ℕ, suc, _+_, _≤_}
 use native.Mathlib.Omega.{arith}
-use lib.ListN.{length, length-append, length-map}
-use Rattle.panel.specs.Panel.{Gain, Panel}
-use Rattle.panel.specs.Items.{Form, has, listed, tone-of, shape, exif-payload, gain-payloads}
-use Rattle.panel.specs.Iloc.{locations}
-use Rattle.panel.specs.Iinf.{infes}
-use Rattle.panel.specs.Ipco.{Role}
-use Rattle.panel.specs.Ipma.{associations}
-use Rattle.panel.specs.Refusal.{last-id}
-use Rattle.panel.specs.declared.Shape.{Shape}
-use Rattle.panel.proofs.Ids.{length-ids-from, length-given}
-use Rattle.panel.proofs.Payloads.{length-samples, length-extents, length-located, locations-runs}
-use Rattle.length.specs.Parts.{Even}
-use Rattle.length.specs.Properties.{associated-items}
+use lib.ListN.{length, take, length-drop, take-append-drop}
+use lib.Seq.{length-take-le}
+use Rattle.octets.specs.Numbers.{_‖_, be, total}
+use Rattle.octets.proofs.Lists.{cancel, length-flatten, total-append}
+use Rattle.panel.specs.Panel.{Tiles, Panel, Gain}
+use Rattle.panel.specs.Parts.{has, listed, tone-of, long}
+use Rattle.heif.specs.Mdat.{samples, exif-payload, mdat, gain-payloads, exif-size, gain-data-size, mdat-size}
+use Rattle.heif.specs.Items.{Even}
 
--- ---- iloc
+-- ---- samples: their lengths and their bytes make them, and are made by them
 
-length-exif-payload : (e : Option (List ℕ)) → length (exif-payload e) ≡ cond (has e) 1 0
+pub length-samples : (l b : List ℕ) → length (samples l b) ≡ length l
+length-samples [] b = refl
+length-samples (n ∷ l) b = ap suc (length-samples l _)
+
+pub lengths-samples : (l b : List ℕ) → total l ≤ length b → map length (samples l b) ≡ l
+lengths-samples [] b h = refl
+lengths-samples (n ∷ l) b h = ap₂ _∷_ (length-take-le n b (omega arith)) (lengths-samples l _ (omega (arith, length-drop n b)))
+
+pub flatten-samples : (l b : List ℕ) → total l ≡ length b → flatten (samples l b) ≡ b
+unfolding flatten
+flatten-samples [] [] h = refl
+flatten-samples [] (x ∷ b) h = absurd (omega arith)
+flatten-samples (n ∷ l) b h = behind (flatten-samples l _ (omega (arith, length-drop n b))) (simp take-append-drop)
+  where
+    -- from whatever bytes c the definition cuts the other samples
+    behind : {c : List ℕ} → flatten (samples l c) ≡ c → take n b ++ c ≡ b → take n b ++ flatten (samples l c) ≡ b
+    behind s e = ap (λ (r : List ℕ). take n b ++ r) s ∙ e
+
+abbrev pub cut : Tiles → List (List ℕ)
+cut t = samples (t .lengths) (t .bytes)
+
+pub record Same-tiles (t u : Tiles) : Type 0 where
+  pub lengths : t .lengths ≡ u .lengths
+  pub bytes : t .bytes ≡ u .bytes
+
+pub cut-inj : (t u : Tiles) → total (t .lengths) ≡ length (t .bytes) → total (u .lengths) ≡ length (u .bytes) → cut t ≡ cut u → Same-tiles t u
+cut-inj t u ht hu e =
+    record {
+      lengths = sym (lengths-samples (t .lengths) (t .bytes) (omega (arith, ht))) ∙ ap (map length) e ∙ lengths-samples (u .lengths) (u .bytes) (omega (arith, hu));
+      bytes = sym (flatten-samples (t .lengths) (t .bytes) ht) ∙ ap flatten e ∙ flatten-samples (u .lengths) (u .bytes) hu;
+    }
+
+-- ---- the Exif
+
+pub exif-inj : (s t : Option (List ℕ)) {x y : List (List ℕ)} → length x ≡ length y → exif-payload s ‖ x ≡ exif-payload t ‖ y → (s ≡ t) × (x ≡ y)
+exif-inj none none n e = (refl, e)
+exif-inj none (some v) n e = absurd (omega (arith, ap length e))
+exif-inj (some u) none n e = absurd (omega (arith, ap length e))
+exif-inj (some u) (some v) n e =
+    let w : be 4 0 ‖ u ≡ be 4 0 ‖ v = cc in
+    (ap some (cancel (be 4 0) (be 4 0) refl w .1), cc)
+
+-- ---- how many payloads, and how many bytes
+
+pub length-exif-payload : (e : Option (List ℕ)) → length (exif-payload e) ≡ cond (has e) 1 0
 length-exif-payload none = refl
 length-exif-payload (some e) = refl
 
-length-gain-payloads : (g : Option Gain) → length (gain-payloads g) ≡ cond (has g) 2 0 + cond (has (tone-of g)) 1 0
+pub length-gain-payloads : (g : Option Gain) → length (gain-payloads g) ≡ cond (has g) 2 0 + cond (has (tone-of g)) 1 0
 length-gain-payloads none = refl
 length-gain-payloads (some g) = omega (arith, tone (g .tone))
   where
@@ -33,18 +72,20 @@ length-gain-payloads (some g) = omega (arith, tone (g .tone))
     tone none = refl
     tone (some t) = refl
 
-pub length-locations : (at : ℕ) (p : Panel) → Even p → length (locations at p) ≡ last-id (shape p)
-length-locations at p h =
-    ap length (locations-runs at p (h .counts))
-    ∙ simp (length-append, length-located, length-extents, length-samples, length-exif-payload, length-gain-payloads) (omega arith)
+total-exif-payload : (e : Option (List ℕ)) → total (map length (exif-payload e)) ≡ exif-size e
+total-exif-payload none = refl
+total-exif-payload (some e) = omega arith
 
--- ---- iinf
+total-gain-payloads : (g : Option Gain) → total (map length (gain-payloads g)) ≡ gain-data-size g
+total-gain-payloads none = refl
+total-gain-payloads (some g) = omega (arith, tone (g .tone))
+  where
+    tone : (t : Option (List ℕ)) → total (map length (listed t)) ≡ long t
+    tone none = refl
+    tone (some t) = omega arith
 
-pub length-infes : (f : Form) (s : Shape) → length (infes f s) ≡ last-id s
-length-infes f s = simp (length-append, length-map, length-ids-from, length-given) (omega arith)
-
--- ---- ipma
-
--- whatever positions the roles have
-pub length-associations : (s : Shape) (its : Role → List ℕ) → length (associations s its) ≡ associated-items s
-length-associations s its = simp (length-append, length-map, length-ids-from, length-given) (omega arith)
+pub length-mdat : (p : Panel) → Even p → length (mdat p .body) ≡ mdat-size p
+length-mdat p h =
+    let colour = lengths-samples (p .tiles .lengths) (p .tiles .bytes) (omega arith) in
+    let alpha = lengths-samples (p .alpha .lengths) (p .alpha .bytes) (omega arith) in
+    simp (length-flatten, map-append, total-append, colour, alpha, total-exif-payload, total-gain-payloads) (omega arith)

@@ -1,15 +1,19 @@
--- What it says of a panel that no check holds.
-use mathlib.Core.Path.{_≡_}
+-- What it says of a panel that no check holds; and check 4 in the ordinary form.
+use mathlib.Core.Path.{_≡_, sym, _∙_}
 use mathlib.Core.Bool.{Bool, true, false, _||_, not}
 use Prim.Native.Nat.{ℕ, suc, _*_, _^_, _≤_, _<_}
 use native.Mathlib.Omega.{arith}
 use lib.Dec.{T, ltb, eqb, nltb→le, nleb→lt, eqb→eq}
 use lib.ListN.{length}
+use borrow.Author.Tests.{ltb-true, lt-ltb}
 use Rattle.octets.specs.Numbers.{total}
+use Rattle.octets.proofs.Tests.{or-absorbs}
 use Rattle.panel.specs.Panel.{Panel}
-use Rattle.panel.specs.Items.{Form, shape}
-use Rattle.panel.specs.File.{file}
-use Rattle.panel.specs.Refusal.{bad-side, bad-grid, differ, bad-counts, bad-sum, last-id, bad-id, bad-items, too-long, refusal}
+use Rattle.panel.specs.Form.{Form, ordinary}
+use Rattle.panel.specs.declared.Shape.{Shape}
+use Rattle.heif.specs.Items.{shape, last-id, Even}
+use Rattle.heif.specs.File.{file, size}
+use Rattle.heif.specs.Refusal.{bad-side, bad-grid, differ, bad-counts, bad-sum, bad-id, bad-items, too-long, refusal}
 
 pub record Accepted (f : Form) (p : Panel) : Type 0 where
   pub rows : 1 ≤ p .dims .rows
@@ -68,3 +72,10 @@ accepted f p e =
       few = nltb→le 65535 (shape p .tiles) (items .1);
       size = omega (arith, nltb→le 4294967295 (length (file f p)) (c5 .0));
     }
+
+pub even-accepted : (f : Form) (p : Panel) → Accepted f p → Even p
+even-accepted f p a = record { counts = a .alpha-count ∙ sym (a .count); sum = a .sum; alpha-sum = a .alpha-sum }
+
+-- in the ordinary form check 4 is whether the last id exceeds 65,535: more than 65,535 tiles have a last id above that
+pub ordinary-items : (s : Shape) → bad-items ordinary s ≡ ltb 65535 (last-id s)
+ordinary-items s = or-absorbs _ _ (λ e. lt-ltb 65535 (last-id s) (omega (arith, ltb-true 65535 (s .tiles) e)))

@@ -1,40 +1,14 @@
--- What a call answers, what the output holds afterwards, and what is promised of both.
+-- What each call answers, what the output holds afterwards, and what is promised of both.
 use mathlib.Core.Path.{_≡_}
 use mathlib.Core.List.{List, _++_}
-use Prim.Native.Nat.{ℕ, zero, suc}
+use Prim.Native.Nat.{ℕ}
 use lib.ListN.{length, drop}
 use Rattle.panel.specs.Panel.{Panel}
 use Rattle.panel.specs.Widths.{Fits}
-use Rattle.panel.specs.Items.{Form}
-use Rattle.panel.specs.File.{file}
-use Rattle.panel.specs.Refusal.{refusal, refusal-in}
-use Rattle.panel.specs.declared.Refusal.{Refusal}
-use Rattle.panel.specs.declared.Refusal.the-variants.{GridSide, TileCount, SampleLengths, ItemIds, FileLength, OutputLength}
-use Rattle.panel.specs.declared.Answer.{Answer}
-use Rattle.panel.specs.declared.Answer.the-variants.{Length, Refused}
-
--- the file's length, or the number of a refusal
-pub data Outcome : Type 0 where
-  made : ℕ → Outcome
-  refused : ℕ → Outcome
-
-abbrev pub number : Refusal → ℕ
-number GridSide = 1
-number TileCount = 2
-number SampleLengths = 3
-number ItemIds = 4
-number FileLength = 5
-number OutputLength = 6
-
--- what the code's answer says
-abbrev pub says : Answer → Outcome
-says (Length n) = made n
-says (Refused r) = refused (number r)
-
--- by the number of the refusal, where 0 is none
-abbrev pub outcome : ℕ → ℕ → Outcome
-outcome zero n = made n
-outcome (suc k) n = refused (suc k)
+use Rattle.panel.specs.Form.{Form}
+use Rattle.panel.specs.Outcome.{Outcome, made, refused, outcome}
+use Rattle.heif.specs.File.{file}
+use Rattle.heif.specs.Refusal.{refusal, refusal-in}
 
 unfoldable pub length-answer : Form → Panel → Outcome
 length-answer f p = outcome (refusal f p) (length (file f p))

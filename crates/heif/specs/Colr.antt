@@ -1,29 +1,56 @@
--- The lengths of the bodies of ipco and ipma as sums of numbers: how many properties there are, how long, and how many each item has.
-use mathlib.Core.Bool.{Bool, cond}
+-- 14496-12, 12.1.5: colour information, by code points (nclx) or by an ICC profile (prof).
+use mathlib.Core.Bool.{cond}
 use mathlib.Core.Option.{Option, none, some}
-use mathlib.Core.List.{List}
-use Prim.Native.Nat.{ℕ, _+_, _*_}
-use lib.ListN.{length}
-use Rattle.panel.specs.Types.{irot-steps, imir-axis}
-use Rattle.panel.specs.Panel.{Colour, Gain, Panel}
-use Rattle.panel.specs.Items.{Form, has, shape}
-use Rattle.panel.specs.Ipco.{irot-payload, imir-payload}
-use Rattle.panel.specs.declared.Shape.{Shape}
+use mathlib.Core.List.{List, [], _∷_}
+use Prim.Native.Nat.{ℕ, _+_}
+use Rattle.octets.specs.Numbers.{_‖_, be, text}
+use Rattle.octets.specs.Boxes.{Box, box, optional}
+use Rattle.panel.specs.Types.{primaries-code, transfer-code, matrix-code, unspecified}
+use Rattle.panel.specs.Panel.{Colour}
+use Rattle.panel.specs.Parts.{has, long}
 use Rattle.panel.specs.declared.color.Cicp.{Cicp}
-use Rattle.panel.specs.declared.metadata.ContentLightLevel.{ContentLightLevel}
-use Rattle.panel.specs.declared.metadata.Orientation.{Orientation}
-use Rattle.length.specs.Parts.{long}
 
--- ---- ipco: whole boxes; a colr has 19 bytes by code points, and 12 and the profile by ICC
+abbrev pub nclx-payload : Cicp → List ℕ
+nclx-payload c =
+    text "nclx" ‖ be 2 (primaries-code (c .primaries)) ‖ be 2 (transfer-code (c .transfer)) ‖ be 2 (matrix-code (c .matrix)) ‖ be 1 (cond (c .«full_range») 0x80 0x00)
 
-abbrev pub first-colr-size : Option Cicp → Option (List ℕ) → ℕ
-first-colr-size (some c) icc = 19
-first-colr-size none (some i) = 12 + length i
-first-colr-size none none = 19
+-- unstated colour is written as unspecified full-range
+abbrev pub first-colr : Option Cicp → Option (List ℕ) → List ℕ
+first-colr (some c) icc = nclx-payload c
+first-colr none (some i) = text "prof" ‖ i
+first-colr none none = nclx-payload unspecified
+
+abbrev pub profile : Option (List ℕ) → Option (List ℕ)
+profile none = none
+profile (some i) = some (text "prof" ‖ i)
+
+-- a profile beside code points
+abbrev pub second-colr : Option Cicp → Option (List ℕ) → Option (List ℕ)
+second-colr (some c) icc = profile icc
+second-colr none icc = none
+
+-- an alternate colour writes what it states
+abbrev pub alternate-colrs : Option Cicp → Option (List ℕ) → List Box
+alternate-colrs (some c) icc = box "colr" (nclx-payload c) ∷ optional "colr" (profile icc)
+alternate-colrs none icc = optional "colr" (profile icc)
+
+abbrev pub alternates : Option Colour → List Box
+alternates none = []
+alternates (some a) = alternate-colrs (a .cicp) (a .icc)
+
+-- ---- how many there are, and how many bytes they have, as whole boxes: 19 by code points, 12 and the profile by ICC
+
+abbrev pub nclx-size : ℕ
+nclx-size = 19
 
 -- a profile, where it is present
 abbrev pub profile-size : Option (List ℕ) → ℕ
 profile-size icc = cond (has icc) 12 0 + long icc
+
+abbrev pub first-colr-size : Option Cicp → Option (List ℕ) → ℕ
+first-colr-size (some c) icc = nclx-size
+first-colr-size none (some i) = profile-size (some i)
+first-colr-size none none = nclx-size
 
 -- a profile beside code points
 abbrev pub second-colr-count : Option Cicp → Option (List ℕ) → ℕ
@@ -40,81 +67,8 @@ alternates-count (some a) = cond (has (a .cicp)) 1 0 + cond (has (a .icc)) 1 0
 
 -- what an alternate colour states
 abbrev pub stated-size : Option Cicp → Option (List ℕ) → ℕ
-stated-size cicp icc = cond (has cicp) 19 0 + cond (has icc) 12 0 + long icc
+stated-size cicp icc = cond (has cicp) nclx-size 0 + profile-size icc
 
 abbrev pub alternates-size : Option Colour → ℕ
 alternates-size none = 0
 alternates-size (some a) = stated-size (a .cicp) (a .icc)
-
--- the transforms of an orientation, and how many bytes each takes
-abbrev pub irot-count : Orientation → ℕ
-irot-count o = cond (has (irot-payload (irot-steps o))) 1 0
-
-abbrev pub imir-count : Orientation → ℕ
-imir-count o = cond (has (imir-payload (imir-axis o))) 1 0
-
-abbrev pub turn-count : Orientation → ℕ
-turn-count o = irot-count o + imir-count o
-
-abbrev pub irot-size : ℕ → ℕ
-irot-size steps = 9 * cond (has (irot-payload steps)) 1 0
-
-abbrev pub imir-size : Option Bool → ℕ
-imir-size axis = 9 * cond (has (imir-payload axis)) 1 0
-
-abbrev pub clli-size : Option ContentLightLevel → ℕ
-clli-size light = 12 * cond (has light) 1 0
-
--- hvcC, ispe, pixi, auxC and colr of the gain image
-abbrev pub image-properties-size : List ℕ → ℕ
-image-properties-size hvcc = (8 + length hvcc) + 20 + 14 + 52 + 19
-
--- ispe, pixi and the alternate colours of the tone map, where there is one
-abbrev pub tone-properties-size : Option (List ℕ) → Option Colour → ℕ
-tone-properties-size tone alternate = cond (has tone) (20 + 16 + alternates-size alternate) 0
-
-abbrev pub gain-properties-size : Option Gain → ℕ
-gain-properties-size none = 0
-gain-properties-size (some g) = image-properties-size (g .hvcc) + tone-properties-size (g .tone) (g .alternate)
-
-abbrev pub gain-property-count : Option Gain → ℕ
-gain-property-count none = 0
-gain-property-count (some g) = 5 + cond (has (g .tone)) (2 + alternates-count (g .alternate)) 0
-
--- hvcC, two ispe, colr and pixi of the colour picture
-abbrev pub colour-properties-size : List ℕ → Colour → ℕ
-colour-properties-size hvcc c = (8 + length hvcc) + (20 + (20 + (first-colr-size (c .cicp) (c .icc) + 16)))
-
--- hvcC, pixi and auxC of the alpha picture
-abbrev pub alpha-properties-size : List ℕ → ℕ
-alpha-properties-size hvcc = (8 + length hvcc) + (14 + 39)
-
--- what is present of the second colr, irot, imir and clli
-abbrev pub optional-properties-size : Colour → Orientation → Option ContentLightLevel → ℕ
-optional-properties-size c o light = second-colr-size (c .cicp) (c .icc) + (irot-size (irot-steps o) + (imir-size (imir-axis o) + clli-size light))
-
-abbrev pub ipco-size : Panel → ℕ
-ipco-size p =
-    colour-properties-size (p .tiles .hvcc) (p .colour)
-    + (alpha-properties-size (p .alpha .hvcc) + (optional-properties-size (p .colour) (p .metadata .orientation) (p .metadata .light) + gain-properties-size (p .gain)))
-
--- ---- ipma
-
--- how many items it names: the tiles, the grids, the gain image and the tone map
-abbrev pub associated-items : Shape → ℕ
-associated-items s = 2 * s .tiles + 2 + cond (s .gain) 1 0 + cond (s .tone) 1 0
-
--- what the gain image and the tone map are associated with: the gain map's properties, and so many transforms
-abbrev pub gain-association-count : ℕ → Option Gain → ℕ
-gain-association-count turns none = 0
-gain-association-count turns (some g) = turns + gain-property-count (some g)
-
--- a colour tile has three, an alpha tile two; each grid has three and the transforms, and the colour grid what is present of the second colr and clli
-abbrev pub association-count : Panel → ℕ
-association-count p =
-    let turns = turn-count (p .metadata .orientation) in
-    5 * shape p .tiles + (3 + second-colr-count (p .colour .cicp) (p .colour .icc) + cond (has (p .metadata .light)) 1 0 + turns) + (3 + turns)
-    + gain-association-count turns (p .gain)
-
-abbrev pub ipma-size : Form → Panel → ℕ
-ipma-size f p = 8 + associated-items (shape p) * (1 + f .id) + association-count p

@@ -1,12 +1,15 @@
 -- 14496-12, 8.11.6: item information box.
+use mathlib.Core.Bool.{cond}
 use mathlib.Core.List.{List, [], _∷_, map}
-use Prim.Native.Nat.{ℕ, _+_}
+use Prim.Native.Nat.{ℕ, _+_, _*_}
 use Prim.Native.String.{String}
 use lib.ListN.{length}
 use Rattle.octets.specs.Numbers.{_‖_, be, text}
 use Rattle.octets.specs.Boxes.{Box, full, boxes}
-use Rattle.panel.specs.Items.{Form, given, ids-from, colour-grid, alpha-tile, alpha-grid, exif-id, gain-id}
+use Rattle.panel.specs.Form.{Form}
+use Rattle.panel.specs.Parts.{given}
 use Rattle.panel.specs.declared.Shape.{Shape}
+use Rattle.heif.specs.Items.{ids-from, colour-grid, alpha-tile, alpha-grid, exif-id, gain-id, last-id}
 
 -- flags 1 hide the item. Its id, protection index 0, its type, an empty name; of a mime item the content type
 abbrev pub infe : Form → ℕ → ℕ → String → List ℕ → Box
@@ -33,3 +36,13 @@ infes f s =
 
 abbrev pub iinf : Form → Shape → Box
 iinf f s = full "iinf" (f .step) 0 (be (f .count) (length (infes f s)) ‖ boxes (infes f s))
+
+-- ---- how many bytes its body has: an entry for each item, as many as the last id
+
+-- of an entry without a content type, as a whole box
+abbrev pub infe-size : Form → ℕ
+infe-size f = 19 + f .id
+
+-- the content type of XMP and the 0 behind it take 20 bytes
+abbrev pub iinf-size : Form → Shape → ℕ
+iinf-size f s = 4 + f .count + last-id s * infe-size f + cond (s .gain) 20 0

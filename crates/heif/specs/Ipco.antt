@@ -1,78 +1,27 @@
--- 23008-12, 9.3.1: item property container box; 6.5: the properties.
-use mathlib.Core.Bool.{Bool, cond}
+-- 23008-12, 9.3.1: item property container box, with the properties in their order.
+use mathlib.Core.Bool.{cond}
 use mathlib.Core.Option.{Option, none, some}
 use mathlib.Core.List.{List, [], _∷_}
-use Prim.Native.Nat.{ℕ, zero, suc, _%_, max}
-use Prim.Native.String.{String}
-use lib.Dec.{eqb}
-use lib.ListN.{replicate}
-use Rattle.octets.specs.Numbers.{_‖_, be, text}
-use Rattle.octets.specs.Boxes.{Box, box, full, optional, boxes}
-use Rattle.panel.specs.Types.{bits, primaries-code, transfer-code, matrix-code, irot-steps, imir-axis}
+use Prim.Native.Nat.{ℕ, max, _+_}
+use Rattle.octets.specs.Numbers.{_‖_}
+use Rattle.octets.specs.Boxes.{Box, box, optional, boxes}
+use Rattle.panel.specs.Types.{bits, irot-steps, imir-axis}
 use Rattle.panel.specs.Panel.{Colour, Gain, Panel}
-use Rattle.panel.specs.Agreement.{unspecified}
+use Rattle.panel.specs.Parts.{has}
 use Rattle.panel.specs.declared.GridDims.{GridDims}
+use Rattle.panel.specs.declared.fmt.BitDepth.{BitDepth}
 use Rattle.panel.specs.declared.color.Cicp.{Cicp}
 use Rattle.panel.specs.declared.metadata.ContentLightLevel.{ContentLightLevel}
 use Rattle.panel.specs.declared.metadata.Orientation.{Orientation}
-
--- ---- colr: colour by code points (nclx), or by an ICC profile (prof)
-
-abbrev pub nclx-payload : Cicp → List ℕ
-nclx-payload c =
-    text "nclx" ‖ be 2 (primaries-code (c .primaries)) ‖ be 2 (transfer-code (c .transfer)) ‖ be 2 (matrix-code (c .matrix)) ‖ be 1 (cond (c .«full_range») 0x80 0x00)
-
--- unstated colour is written as unspecified full-range
-abbrev pub first-colr : Option Cicp → Option (List ℕ) → List ℕ
-first-colr (some c) icc = nclx-payload c
-first-colr none (some i) = text "prof" ‖ i
-first-colr none none = nclx-payload unspecified
-
-abbrev pub profile : Option (List ℕ) → Option (List ℕ)
-profile none = none
-profile (some i) = some (text "prof" ‖ i)
-
--- a profile beside code points
-abbrev pub second-colr : Option Cicp → Option (List ℕ) → Option (List ℕ)
-second-colr (some c) icc = profile icc
-second-colr none icc = none
-
--- an alternate colour writes what it states
-abbrev pub alternate-colrs : Option Cicp → Option (List ℕ) → List Box
-alternate-colrs (some c) icc = box "colr" (nclx-payload c) ∷ optional "colr" (profile icc)
-alternate-colrs none icc = optional "colr" (profile icc)
-
-abbrev pub alternates : Option Colour → List Box
-alternates none = []
-alternates (some a) = alternate-colrs (a .cicp) (a .icc)
-
--- ---- the other properties
-
-abbrev pub ispe : ℕ → ℕ → Box
-ispe w h = full "ispe" 0 0 (be 4 w ‖ be 4 h)
-
--- the depth of each of k channels
-abbrev pub pixi : ℕ → ℕ → Box
-pixi k depth = full "pixi" 0 0 (be 1 k ‖ replicate k depth)
-
-abbrev pub auxC : String → Box
-auxC urn = full "auxC" 0 0 (text urn ‖ be 1 0)
-
-abbrev pub irot-payload : ℕ → Option (List ℕ)
-irot-payload zero = none
-irot-payload (suc k) = some (be 1 (suc k))
-
-abbrev pub imir-payload : Option Bool → Option (List ℕ)
-imir-payload none = none
-imir-payload (some axis) = some (be 1 (cond axis 1 0))
-
-abbrev pub clli-payload : Option ContentLightLevel → Option (List ℕ)
-clli-payload none = none
-clli-payload (some l) = some (be 2 (l .«max_content_light_level») ‖ be 2 (l .«max_pic_average_light_level»))
-
--- the tone map's picture is as large as the turned grid
-abbrev pub tone-ispe : GridDims → Orientation → Box
-tone-ispe d o = let odd = eqb (irot-steps o % 2) 1 in ispe (cond odd (d .«full_h») (d .«full_w»)) (cond odd (d .«full_w») (d .«full_h»))
+use Rattle.heif.specs.Hvcc.{hvcC, hvcC-size}
+use Rattle.heif.specs.Irot.{irot-payload, irot-size}
+use Rattle.heif.specs.Imir.{imir-payload, imir-size}
+use Rattle.heif.specs.Colr.{nclx-payload, first-colr, second-colr, alternates}
+use Rattle.heif.specs.Colr.{nclx-size, first-colr-size, second-colr-size, alternates-count, alternates-size}
+use Rattle.heif.specs.Ispe.{ispe, tone-ispe, ispe-size}
+use Rattle.heif.specs.Pixi.{pixi, pixi-size}
+use Rattle.heif.specs.Auxc.{auxC, auxC-size}
+use Rattle.heif.specs.Clli.{clli-payload, clli-size}
 
 -- ---- the properties in their order: a role, and the boxes that the panel has in it, which are one, or none, or two alternate colours
 
@@ -81,36 +30,58 @@ pub data Role : Type 0 where
   hvcC-gain ispe-gain pixi-gain auxC-gain colr-gain ispe-tone pixi-tone colr-tone : Role
   deriving Discrete as Role-discrete
 
+-- the colour picture's
+abbrev pub colour-slots : GridDims → BitDepth → List ℕ → Colour → List (Role × List Box)
+colour-slots d depth hvcc c =
+    (hvcC-colour, hvcC hvcc ∷ [])
+    ∷ (ispe-tile, ispe (d .«tile_w») (d .«tile_h») ∷ [])
+    ∷ (ispe-whole, ispe (d .«full_w») (d .«full_h») ∷ [])
+    ∷ (colr-first, box "colr" (first-colr (c .cicp) (c .icc)) ∷ [])
+    ∷ (pixi-colour, pixi 3 (bits depth) ∷ [])
+    ∷ []
+
+-- the alpha picture's
+abbrev pub alpha-slots : BitDepth → List ℕ → List (Role × List Box)
+alpha-slots depth hvcc = (hvcC-alpha, hvcC hvcc ∷ []) ∷ (pixi-alpha, pixi 1 (bits depth) ∷ []) ∷ (auxC-alpha, auxC "urn:mpeg:hevc:2015:auxid:1" ∷ []) ∷ []
+
+-- those that may be absent
+abbrev pub option-slots : Colour → Orientation → Option ContentLightLevel → List (Role × List Box)
+option-slots c o light =
+    (colr-second, optional "colr" (second-colr (c .cicp) (c .icc)))
+    ∷ (irot, optional "irot" (irot-payload (irot-steps o)))
+    ∷ (imir, optional "imir" (imir-payload (imir-axis o)))
+    ∷ (clli, optional "clli" (clli-payload light))
+    ∷ []
+
+-- the gain image's
+abbrev pub image-slots : List ℕ → ℕ → ℕ → BitDepth → Cicp → List (Role × List Box)
+image-slots hvcc w h depth cicp =
+    (hvcC-gain, hvcC hvcc ∷ [])
+    ∷ (ispe-gain, ispe w h ∷ [])
+    ∷ (pixi-gain, pixi 1 (bits depth) ∷ [])
+    ∷ (auxC-gain, auxC "urn:com:apple:photo:2020:aux:hdrgainmap" ∷ [])
+    ∷ (colr-gain, box "colr" (nclx-payload cicp) ∷ [])
+    ∷ []
+
+-- the tone map's, where there is one, with its size and its depth
 abbrev pub tone-slots : Box → Box → Option (List ℕ) → Option Colour → List (Role × List Box)
 tone-slots size depth none alternate = []
 tone-slots size depth (some t) alternate = (ispe-tone, size ∷ []) ∷ (pixi-tone, depth ∷ []) ∷ (colr-tone, alternates alternate) ∷ []
 
+-- those of both, where there is a gain map
 abbrev pub gain-slots : Box → Box → Option Gain → List (Role × List Box)
 gain-slots size depth none = []
 gain-slots size depth (some g) =
-    (hvcC-gain, box "hvcC" (g .hvcc) ∷ [])
-    ∷ (ispe-gain, ispe (g .width) (g .height) ∷ [])
-    ∷ (pixi-gain, pixi 1 (bits (g .depth)) ∷ [])
-    ∷ (auxC-gain, auxC "urn:com:apple:photo:2020:aux:hdrgainmap" ∷ [])
-    ∷ (colr-gain, box "colr" (nclx-payload (g .cicp)) ∷ [])
-    ∷ tone-slots size depth (g .tone) (g .alternate)
+    image-slots (g .hvcc) (g .width) (g .height) (g .depth) (g .cicp) ‖ tone-slots size depth (g .tone) (g .alternate)
 
 abbrev pub slots : Panel → List (Role × List Box)
 slots p =
-    (hvcC-colour, box "hvcC" (p .tiles .hvcc) ∷ [])
-    ∷ (ispe-tile, ispe (p .dims .«tile_w») (p .dims .«tile_h») ∷ [])
-    ∷ (ispe-whole, ispe (p .dims .«full_w») (p .dims .«full_h») ∷ [])
-    ∷ (colr-first, box "colr" (first-colr (p .colour .cicp) (p .colour .icc)) ∷ [])
-    ∷ (pixi-colour, pixi 3 (bits (p .depth)) ∷ [])
-    ∷ (hvcC-alpha, box "hvcC" (p .alpha .hvcc) ∷ [])
-    ∷ (pixi-alpha, pixi 1 (bits (p .depth)) ∷ [])
-    ∷ (auxC-alpha, auxC "urn:mpeg:hevc:2015:auxid:1" ∷ [])
-    ∷ (colr-second, optional "colr" (second-colr (p .colour .cicp) (p .colour .icc)))
-    ∷ (irot, optional "irot" (irot-payload (irot-steps (p .metadata .orientation))))
-    ∷ (imir, optional "imir" (imir-payload (imir-axis (p .metadata .orientation))))
-    ∷ (clli, optional "clli" (clli-payload (p .metadata .light)))
-    ∷ gain-slots (tone-ispe (p .dims) (p .metadata .orientation)) (pixi 3 (max (bits (p .depth)) 10)) (p .gain)
+    colour-slots (p .dims) (p .depth) (p .tiles .hvcc) (p .colour)
+    ‖ alpha-slots (p .depth) (p .alpha .hvcc)
+    ‖ option-slots (p .colour) (p .metadata .orientation) (p .metadata .light)
+    ‖ gain-slots (tone-ispe (p .dims) (p .metadata .orientation)) (pixi 3 (max (bits (p .depth)) 10)) (p .gain)
 
+-- the boxes of these slots
 abbrev pub held : List (Role × List Box) → List Box
 held [] = []
 held (s ∷ l) = s .1 ‖ held l
@@ -120,3 +91,39 @@ properties p = held (slots p)
 
 abbrev pub ipco : Panel → Box
 ipco p = box "ipco" (boxes (properties p))
+
+-- ---- how many bytes its body has, picture by picture
+
+-- hvcC, ispe, pixi, auxC and colr of the gain image
+abbrev pub image-properties-size : List ℕ → ℕ
+image-properties-size hvcc = hvcC-size hvcc + ispe-size + pixi-size 1 + auxC-size 39 + nclx-size
+
+-- ispe, pixi and the alternate colours of the tone map, where there is one
+abbrev pub tone-properties-size : Option (List ℕ) → Option Colour → ℕ
+tone-properties-size tone alternate = cond (has tone) (ispe-size + pixi-size 3 + alternates-size alternate) 0
+
+abbrev pub gain-properties-size : Option Gain → ℕ
+gain-properties-size none = 0
+gain-properties-size (some g) = image-properties-size (g .hvcc) + tone-properties-size (g .tone) (g .alternate)
+
+-- how many properties the gain map has
+abbrev pub gain-property-count : Option Gain → ℕ
+gain-property-count none = 0
+gain-property-count (some g) = 5 + cond (has (g .tone)) (2 + alternates-count (g .alternate)) 0
+
+-- hvcC, two ispe, colr and pixi of the colour picture
+abbrev pub colour-properties-size : List ℕ → Colour → ℕ
+colour-properties-size hvcc c = hvcC-size hvcc + (ispe-size + (ispe-size + (first-colr-size (c .cicp) (c .icc) + pixi-size 3)))
+
+-- hvcC, pixi and auxC of the alpha picture
+abbrev pub alpha-properties-size : List ℕ → ℕ
+alpha-properties-size hvcc = hvcC-size hvcc + (pixi-size 1 + auxC-size 26)
+
+-- what is present of the second colr, irot, imir and clli
+abbrev pub optional-properties-size : Colour → Orientation → Option ContentLightLevel → ℕ
+optional-properties-size c o light = second-colr-size (c .cicp) (c .icc) + (irot-size (irot-steps o) + (imir-size (imir-axis o) + clli-size light))
+
+abbrev pub ipco-size : Panel → ℕ
+ipco-size p =
+    colour-properties-size (p .tiles .hvcc) (p .colour)
+    + (alpha-properties-size (p .alpha .hvcc) + (optional-properties-size (p .colour) (p .metadata .orientation) (p .metadata .light) + gain-properties-size (p .gain)))

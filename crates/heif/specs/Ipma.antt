@@ -1,12 +1,22 @@
 -- 23008-12, 9.3.1: item property association box.
+use mathlib.Core.Bool.{cond}
+use mathlib.Core.Option.{Option, none, some}
 use mathlib.Core.List.{List, [], _∷_, map, flatMap}
-use Prim.Native.Nat.{ℕ, _+_}
+use Prim.Native.Nat.{ℕ, _+_, _*_}
 use lib.ListN.{length}
 use Rattle.octets.specs.Numbers.{_‖_, be}
 use Rattle.octets.specs.Boxes.{Box, full}
-use Rattle.panel.specs.Items.{Form, given, ids-from, colour-grid, alpha-tile, alpha-grid, gain-id}
+use Rattle.panel.specs.Form.{Form}
+use Rattle.panel.specs.Parts.{given, has}
+use Rattle.panel.specs.Panel.{Gain, Panel}
 use Rattle.panel.specs.declared.Shape.{Shape}
-use Rattle.panel.specs.Ipco
+use Rattle.panel.specs.declared.metadata.Orientation.{Orientation}
+use Rattle.heif.specs.Items.{ids-from, colour-grid, alpha-tile, alpha-grid, gain-id, shape}
+use Rattle.heif.specs.Ipco
+use Rattle.heif.specs.Ipco.{gain-property-count}
+use Rattle.heif.specs.Colr.{second-colr-count}
+use Rattle.heif.specs.Irot.{irot-count}
+use Rattle.heif.specs.Imir.{imir-count}
 
 -- the positions of a role's boxes, counted along the properties from `at` on
 abbrev pub positions : ℕ → List (Ipco.Role × List Box) → Ipco.Role → List ℕ
@@ -52,3 +62,27 @@ association f a = be (f .id) (a .id) ‖ be 1 (length (a .properties)) ‖ a .pr
 
 abbrev pub ipma : Form → List Association → Box
 ipma f l = full "ipma" (f .step) 0 (be 4 (length l) ‖ flatMap (association f) l)
+
+-- ---- how many bytes its body has: the items that it names, and what each is associated with
+
+abbrev pub turn-count : Orientation → ℕ
+turn-count o = irot-count o + imir-count o
+
+-- how many items it names: the tiles, the grids, the gain image and the tone map
+abbrev pub associated-items : Shape → ℕ
+associated-items s = 2 * s .tiles + 2 + cond (s .gain) 1 0 + cond (s .tone) 1 0
+
+-- what the gain image and the tone map are associated with: the gain map's properties, and so many transforms
+abbrev pub gain-association-count : ℕ → Option Gain → ℕ
+gain-association-count turns none = 0
+gain-association-count turns (some g) = turns + gain-property-count (some g)
+
+-- a colour tile has three, an alpha tile two; each grid has three and the transforms, and the colour grid what is present of the second colr and clli
+abbrev pub association-count : Panel → ℕ
+association-count p =
+    let turns = turn-count (p .metadata .orientation) in
+    5 * shape p .tiles + (3 + second-colr-count (p .colour .cicp) (p .colour .icc) + cond (has (p .metadata .light)) 1 0 + turns) + (3 + turns)
+    + gain-association-count turns (p .gain)
+
+abbrev pub ipma-size : Form → Panel → ℕ
+ipma-size f p = 8 + associated-items (shape p) * (1 + f .id) + association-count p

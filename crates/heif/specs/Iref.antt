@@ -1,12 +1,15 @@
 -- 14496-12, 8.11.12: item reference box.
+use mathlib.Core.Bool.{cond}
 use mathlib.Core.List.{List, [], _∷_, flatMap}
-use Prim.Native.Nat.{ℕ, _+_}
+use Prim.Native.Nat.{ℕ, _+_, _*_}
 use Prim.Native.String.{String}
 use lib.ListN.{length}
 use Rattle.octets.specs.Numbers.{_‖_, be}
 use Rattle.octets.specs.Boxes.{Box, box, full, boxes}
-use Rattle.panel.specs.Items.{Form, given, ids-from, colour-grid, alpha-tile, alpha-grid, exif-id, gain-id}
+use Rattle.panel.specs.Form.{Form}
+use Rattle.panel.specs.Parts.{given}
 use Rattle.panel.specs.declared.Shape.{Shape}
+use Rattle.heif.specs.Items.{ids-from, colour-grid, alpha-tile, alpha-grid, exif-id, gain-id}
 
 -- from one item to others; their count takes 16 bits in every form
 abbrev pub reference : Form → String → ℕ → List ℕ → Box
@@ -29,3 +32,16 @@ references f s =
 
 abbrev pub iref : Form → Shape → Box
 iref f s = full "iref" (f .step) 0 (boxes (references f s))
+
+-- ---- how many bytes its body has
+
+-- from one item to k others, the whole box
+abbrev pub reference-size : Form → ℕ → ℕ
+reference-size f k = 10 + (1 + k) * f .id
+
+-- of the gain image and its XMP, and of the tone map
+abbrev pub gain-references-size : Form → Shape → ℕ
+gain-references-size f s = cond (s .gain) (2 * reference-size f 1) 0 + cond (s .tone) (reference-size f 2) 0
+
+abbrev pub iref-size : Form → Shape → ℕ
+iref-size f s = 4 + 2 * reference-size f (s .tiles) + reference-size f 1 + cond (s .exif) (reference-size f 1) 0 + gain-references-size f s

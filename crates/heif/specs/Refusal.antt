@@ -1,14 +1,15 @@
 -- Why a panel is refused: the number of the first check that holds, or 0.
-use mathlib.Core.Bool.{Bool, true, false, _||_, not, cond}
+use mathlib.Core.Bool.{Bool, true, false, _||_, not}
 use mathlib.Core.List.{List, [], _∷_}
-use Prim.Native.Nat.{ℕ, _+_, _*_, _^_}
+use Prim.Native.Nat.{ℕ, _*_, _^_}
 use lib.Dec.{ltb, leb, eqb}
 use lib.ListN.{length}
 use Rattle.octets.specs.Numbers.{_‖_, total}
 use Rattle.panel.specs.Panel.{Tiles, Panel}
-use Rattle.panel.specs.Items.{Form, shape, alpha-grid}
+use Rattle.panel.specs.Form.{Form}
 use Rattle.panel.specs.declared.Shape.{Shape}
-use Rattle.panel.specs.File.{file}
+use Rattle.heif.specs.Items.{shape, last-id}
+use Rattle.heif.specs.File.{file}
 
 abbrev pub bad-side : ℕ → Bool
 bad-side n = ltb n 1 || ltb 256 n
@@ -25,9 +26,6 @@ bad-counts n c a = differ c n || differ a n
 
 abbrev pub bad-sum : Tiles → Bool
 bad-sum t = differ (total (t .lengths)) (length (t .bytes))
-
-abbrev pub last-id : Shape → ℕ
-last-id s = alpha-grid s + cond (s .exif) 1 0 + cond (s .gain) 2 0 + cond (s .tone) 1 0
 
 -- the last id does not fit in k bytes
 abbrev pub bad-id : ℕ → ℕ → Bool

@@ -9,20 +9,23 @@ use lib.ListN.{length}
 use Rattle.octets.specs.Numbers.{_‖_, total}
 use Rattle.octets.proofs.Lists.{total-append}
 use Rattle.panel.specs.Panel.{Colour, Gain, Panel}
-use Rattle.panel.specs.Items.{ordinary, has, given, tone-of}
-use Rattle.panel.specs.Iloc.{wide}
-use Rattle.panel.specs.File.{file}
-use Rattle.panel.specs.Refusal.{refusal}
+use Rattle.panel.specs.Form.{ordinary}
+use Rattle.panel.specs.Parts.{has, given, tone-of, long}
 use Rattle.panel.specs.declared.GridDims.{GridDims}
 use Rattle.panel.specs.declared.color.Cicp.{Cicp}
-use Rattle.panel.proofs.Accepted.{accepted}
-use Rattle.length.specs.Parts.{Even, long}
-use Rattle.length.specs.Properties.{first-colr-size, second-colr-count, second-colr-size, alternates-count, stated-size, alternates-size, turn-count}
-use Rattle.length.specs.Properties.{tone-properties-size, gain-properties-size, gain-association-count}
-use Rattle.length.specs.Size.{reference-size, idat-size, exif-size, gain-data-size, size}
-use Rattle.length.specs.Shares.{Extra, wide-grid, alternate-cicp, share, exif-extras, colour-extras, profile-extras, alternate-extras}
-use Rattle.length.specs.Shares.{tone-extras, gain-extras, extras, bare, replaced-colr, replaced, meetings}
-use Rattle.length.proofs.File.{length-file, even-accepted}
+use Rattle.heif.specs.Idat.{wide, idat-size}
+use Rattle.heif.specs.File.{file, size}
+use Rattle.heif.specs.Refusal.{refusal}
+use Rattle.heif.specs.Items.{Even}
+use Rattle.heif.specs.Colr.{first-colr-size, second-colr-count, second-colr-size, alternates-count, stated-size, alternates-size}
+use Rattle.heif.specs.Ipma.{turn-count, gain-association-count}
+use Rattle.heif.specs.Ipco.{tone-properties-size, gain-properties-size}
+use Rattle.heif.specs.Iref.{reference-size}
+use Rattle.heif.specs.Mdat.{exif-size, gain-data-size}
+use Rattle.heif.proofs.Refusal.{accepted, even-accepted}
+use Rattle.heif.proofs.File.{length-file}
+use Rattle.heif_length.specs.Shares.{Extra, wide-grid, alternate-cicp, share, exif-extras, colour-extras, profile-extras, alternate-extras}
+use Rattle.heif_length.specs.Shares.{tone-extras, gain-extras, extras, bare, replaced-colr, replaced, meetings}
 
 -- what extras add together
 abbrev shares : List Extra → ℕ

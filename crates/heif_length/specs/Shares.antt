@@ -7,14 +7,17 @@ use lib.ListN.{length}
 use Rattle.octets.specs.Numbers.{_‖_}
 use Rattle.panel.specs.Types.{irot-steps, imir-axis}
 use Rattle.panel.specs.Panel.{Colour, Gain, Panel}
-use Rattle.panel.specs.Items.{has, given, shape}
-use Rattle.panel.specs.Ipco.{irot-payload, imir-payload}
-use Rattle.panel.specs.Iloc.{wide}
-use Rattle.panel.specs.File.{rext, gain-rext}
+use Rattle.panel.specs.Parts.{has, given}
 use Rattle.panel.specs.declared.GridDims.{GridDims}
 use Rattle.panel.specs.declared.color.Cicp.{Cicp}
 use Rattle.panel.specs.declared.metadata.Orientation.{Orientation}
-use Rattle.length.specs.Properties.{turn-count}
+use Rattle.heif.specs.Items.{shape}
+use Rattle.heif.specs.Irot.{irot-payload}
+use Rattle.heif.specs.Imir.{imir-payload}
+use Rattle.heif.specs.Idat.{wide}
+use Rattle.heif.specs.Hvcc.{rext}
+use Rattle.heif.specs.Ftyp.{gain-rext}
+use Rattle.heif.specs.Ipma.{turn-count}
 
 -- what a panel may have beyond its tiles, each with the lengths of its byte parts
 pub data Extra : Type 0 where

@@ -8,11 +8,12 @@ use Rattle.octets.specs.Boxes.{boxes}
 use Rattle.panel.specs.Panel.{Panel}
 use Rattle.panel.specs.Agreement.{norm, Agree}
 use Rattle.panel.specs.Widths.{Fits}
-use Rattle.panel.specs.Items.{ordinary, listed}
-use Rattle.panel.specs.File.{file}
-use Rattle.panel.specs.Refusal.{refusal}
-use Rattle.panel.proofs.Unique.{same-files}
-use Rattle.trials.specs.Panels.{P, P-stated, P-other}
+use Rattle.panel.specs.Form.{ordinary}
+use Rattle.panel.specs.Parts.{listed}
+use Rattle.heif.specs.File.{file}
+use Rattle.heif.specs.Refusal.{refusal}
+use Rattle.heif_unique.proofs.Unique.{same-files}
+use Rattle.heif_trials.specs.Panels.{P, P-stated, P-other}
 
 pub P-fits : Fits P
 P-fits = record { tile-w = omega arith; tile-h = omega arith; full-w = omega arith; full-h = omega arith; light = tt; gain = tt }

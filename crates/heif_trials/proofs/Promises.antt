@@ -6,13 +6,14 @@ use native.Mathlib.Omega.{arith}
 use lib.ListN.{length, getD, replicate}
 use Rattle.octets.specs.Boxes.{boxes}
 use Rattle.panel.specs.Panel.{Panel}
-use Rattle.panel.specs.Items.{ordinary}
-use Rattle.panel.specs.File.{file}
-use Rattle.panel.specs.Refusal.{refusal, refusal-in}
-use Rattle.panel.specs.Answer.{Outcome, made, refused, length-answer, write-answer, after, Promised, Promise, Length-promise}
-use Rattle.trials.specs.Panels.{P, P-other}
-use Rattle.trials.specs.Wrong.{refuses-all, emits-P, writes-nothing, first-offset, invented}
-use Rattle.trials.proofs.Examples.{P-fits, P-other-fits}
+use Rattle.panel.specs.Form.{ordinary}
+use Rattle.panel.specs.Outcome.{Outcome, made, refused}
+use Rattle.heif.specs.File.{file}
+use Rattle.heif.specs.Refusal.{refusal, refusal-in}
+use Rattle.heif.specs.Answer.{length-answer, write-answer, after, Promised, Promise, Length-promise}
+use Rattle.heif_trials.specs.Panels.{P, P-other}
+use Rattle.heif_trials.specs.Wrong.{refuses-all, emits-P, writes-nothing, first-offset, invented}
+use Rattle.heif_trials.proofs.Examples.{P-fits, P-other-fits}
 
 pub kept : Promise ordinary (λ p old. record { answer = write-answer ordinary p (length old); output = after ordinary p old })
 kept p fits old = record { answer = refl; output = refl }

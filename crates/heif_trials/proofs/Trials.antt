@@ -2,11 +2,11 @@
 use mathlib.Core.List.{flatten, flatMap}
 use lib.Dec.{T}
 use Rattle.octets.specs.Boxes.{boxes}
-use Rattle.panel.specs.File.{file}
-use Rattle.panel.specs.Refusal.{refusal-in}
-use Rattle.panel.specs.Answer.{write-answer}
-use Rattle.trials.specs.Trials.{all-hold}
-use Rattle.trials.specs.Table.{table}
+use Rattle.heif.specs.File.{file}
+use Rattle.heif.specs.Refusal.{refusal-in}
+use Rattle.heif.specs.Answer.{write-answer}
+use Rattle.heif_trials.specs.Trials.{all-hold}
+use Rattle.heif_trials.specs.Table.{table}
 
 pub trials : T (all-hold table)
 unfolding boxes flatten flatMap file refusal-in write-answer

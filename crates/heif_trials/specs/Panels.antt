@@ -4,7 +4,7 @@ use mathlib.Core.List.{List, [], _∷_}
 use Prim.Native.Nat.{ℕ}
 use lib.ListN.{replicate}
 use Rattle.panel.specs.Panel.{Colour, Metadata, Gain, Panel}
-use Rattle.panel.specs.Agreement.{unspecified}
+use Rattle.panel.specs.Types.{unspecified}
 use Rattle.panel.specs.declared.fmt.BitDepth.the-variants.{Eight}
 use Rattle.panel.specs.declared.metadata.ContentLightLevel.{ContentLightLevel}
 use Rattle.panel.specs.declared.metadata.Orientation.{Orientation}

@@ -2,10 +2,10 @@
 use mathlib.Core.List.{List, [], _∷_}
 use Prim.Native.Nat.{ℕ}
 use Rattle.octets.specs.Numbers.{_‖_, be, text}
-use Rattle.panel.specs.Answer.{made, refused}
+use Rattle.panel.specs.Outcome.{made, refused}
 use Rattle.panel.specs.Panel.{Panel}
-use Rattle.trials.specs.Panels
-use Rattle.trials.specs.Trials.{Shown, box-at, bytes-at, item, payload, property, associated, Trial}
+use Rattle.heif_trials.specs.Panels
+use Rattle.heif_trials.specs.Trials.{Shown, box-at, bytes-at, item, payload, property, associated, Trial}
 
 -- exactly enough room
 abbrev fits : Panel → ℕ → List Shown → Trial

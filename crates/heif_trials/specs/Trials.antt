@@ -8,13 +8,15 @@ use lib.ListN.{length, take, drop, getD}
 use Rattle.octets.specs.Numbers.{_‖_, be, text}
 use Rattle.octets.specs.Boxes.{Box, box, boxes, tag, kind}
 use Rattle.panel.specs.Panel.{Panel}
-use Rattle.panel.specs.Items.{ordinary, shape}
-use Rattle.panel.specs.Iloc.{Location, locations}
-use Rattle.panel.specs.Iinf.{infes}
-use Rattle.panel.specs.Ipco.{slots, properties}
-use Rattle.panel.specs.Ipma.{Association, positions, associations}
-use Rattle.panel.specs.File.{data-at, file}
-use Rattle.panel.specs.Answer.{Outcome, made, refused, write-answer}
+use Rattle.panel.specs.Form.{ordinary}
+use Rattle.panel.specs.Outcome.{Outcome, made, refused}
+use Rattle.heif.specs.Items.{shape}
+use Rattle.heif.specs.Iloc.{Location, locations}
+use Rattle.heif.specs.Iinf.{infes}
+use Rattle.heif.specs.Ipco.{slots, properties}
+use Rattle.heif.specs.Ipma.{Association, positions, associations}
+use Rattle.heif.specs.File.{data-at, file}
+use Rattle.heif.specs.Answer.{write-answer}
 
 pub data Shown : Type 0 where
   -- a box by its type: its offset in the file and its size

@@ -6,12 +6,16 @@ use lib.Dec.{eqb}
 use lib.ListN.{length}
 use Rattle.octets.specs.Boxes.{boxes}
 use Rattle.panel.specs.Panel.{Panel}
-use Rattle.panel.specs.Items.{ordinary}
-use Rattle.panel.specs.Iloc.{Location, locations}
-use Rattle.panel.specs.File.{head, meta, mdat, data-at, file}
-use Rattle.panel.specs.Refusal.{refusal}
-use Rattle.panel.specs.Answer.{Outcome, refused, outcome, write-answer, left, Result}
-use Rattle.trials.specs.Panels.{P}
+use Rattle.panel.specs.Form.{ordinary}
+use Rattle.panel.specs.Outcome.{Outcome, refused, outcome}
+use Rattle.heif.specs.Iloc.{Location, locations}
+use Rattle.heif.specs.Ftyp.{head}
+use Rattle.heif.specs.Meta.{meta}
+use Rattle.heif.specs.Mdat.{mdat}
+use Rattle.heif.specs.File.{data-at, file}
+use Rattle.heif.specs.Refusal.{refusal}
+use Rattle.heif.specs.Answer.{write-answer, left, Result}
+use Rattle.heif_trials.specs.Panels.{P}
 
 abbrev pub refuses-all : Panel → List ℕ → Result
 refuses-all p old = record { answer = refused 1; output = old }

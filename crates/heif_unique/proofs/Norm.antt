@@ -1,35 +1,19 @@
--- The normal form keeps the file and the refusal, and taken twice it is itself.
+-- The normal form keeps the file and the refusal.
 use mathlib.Core.Path.{_≡_, refl, ap, _∙_}
 use mathlib.Core.Bool.{_||_}
 use mathlib.Core.Option.{Option, none, some}
 use mathlib.Core.List.{List, [], _∷_}
 use Prim.Native.Nat.{ℕ, _*_}
 use lib.ListN.{length}
 use Rattle.panel.specs.Panel.{Colour, Gain, Panel}
 use Rattle.panel.specs.Agreement.{stated, filled, shown, norm-gain, norm}
-use Rattle.panel.specs.Items.{Form, has, tone-of, shape}
-use Rattle.panel.specs.File.{file}
-use Rattle.panel.specs.Refusal.{bad-grid, bad-counts, bad-sum, bad-items, too-long, check, first, refusal}
+use Rattle.panel.specs.Form.{Form}
+use Rattle.panel.specs.Parts.{has, tone-of}
 use Rattle.panel.specs.declared.color.Cicp.{Cicp}
-
--- p with another colour and another gain map
-abbrev put : Panel → Colour → Option Gain → Panel
-put p c g = record { dims = p .dims; depth = p .depth; tiles = p .tiles; alpha = p .alpha; colour = c; metadata = p .metadata; gain = g }
-
--- g with another tone map and another alternate colour
-abbrev alter : Gain → Option (List ℕ) → Option Colour → Gain
-alter g t a =
-    record {
-      hvcc = g .hvcc;
-      sample = g .sample;
-      width = g .width;
-      height = g .height;
-      depth = g .depth;
-      cicp = g .cicp;
-      xmp = g .xmp;
-      tone = t;
-      alternate = a;
-    }
+use Rattle.panel.proofs.Agreement.{put, alter}
+use Rattle.heif.specs.Items.{shape}
+use Rattle.heif.specs.File.{file}
+use Rattle.heif.specs.Refusal.{bad-grid, bad-counts, bad-sum, bad-items, too-long, check, first, refusal}
 
 -- ---- the file
 
@@ -90,28 +74,3 @@ refusal-norm f p =
     ∷ check 4 (λ _. bad-items f (s i))
     ∷ check 5 (λ _. too-long (n i))
     ∷ [])
-
--- ---- taken twice
-
-stated-twice : (c : Option Cicp) (i : Option (List ℕ)) → stated (stated c i .cicp) (stated c i .icc) ≡ stated c i
-stated-twice (some c) i = refl
-stated-twice none (some i) = refl
-stated-twice none none = refl
-
-filled-twice : (t : List ℕ) (c : Option Cicp) (i : Option (List ℕ)) → shown (some t) (filled c i) ≡ filled c i
-filled-twice t (some c) i = refl
-filled-twice t none (some i) = refl
-filled-twice t none none = refl
-
-shown-twice : (t : Option (List ℕ)) (a : Option Colour) → shown t (shown t a) ≡ shown t a
-shown-twice none a = refl
-shown-twice (some t) none = refl
-shown-twice (some t) (some a) = filled-twice t (a .cicp) (a .icc)
-
-gain-twice : (g : Option Gain) → norm-gain (norm-gain g) ≡ norm-gain g
-gain-twice none = refl
-gain-twice (some g) = ap (λ (a : Option Colour). some (alter g (g .tone) a)) (shown-twice (g .tone) (g .alternate))
-
-pub norm-twice : (p : Panel) → norm (norm p) ≡ norm p
-unfolding norm
-norm-twice p = let c = stated-twice (p .colour .cicp) (p .colour .icc) in let g = gain-twice (p .gain) in λ i. put p (c i) (g i)

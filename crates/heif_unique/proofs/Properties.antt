@@ -8,14 +8,24 @@ use native.Mathlib.Omega.{arith}
 use lib.ListN.{length, getD, drop}
 use Rattle.octets.specs.Boxes.{Box}
 use Rattle.octets.proofs.Boxes.{body-at, Leads, leads-none, leads-first, row-inj}
 use Rattle.panel.specs.Types.{bits, irot-steps, imir-axis}
 use Rattle.panel.specs.Panel.{Colour, Gain, Panel}
 use Rattle.panel.specs.Agreement.{stated, shown, norm-gain}
 use Rattle.panel.specs.Widths.{Of, Gain-fits, Fits}
-use Rattle.panel.specs.Items.{listed, gain-payloads}
-use Rattle.panel.specs.Ipco.{second-colr, pixi, irot-payload, imir-payload, clli-payload, tone-ispe, tone-slots, gain-slots, held, properties, alternates}
+use Rattle.panel.specs.Parts.{listed}
 use Rattle.panel.proofs.Codes.{bits-inj}
-use Rattle.panel.proofs.Fields.{nclx-inj, colour-inj, alternates-inj, orientation-inj, light-inj, ispe-inj}
+use Rattle.heif.specs.Mdat.{gain-payloads}
+use Rattle.heif.specs.Colr.{second-colr, alternates}
+use Rattle.heif.specs.Pixi.{pixi}
+use Rattle.heif.specs.Irot.{irot-payload}
+use Rattle.heif.specs.Imir.{imir-payload}
+use Rattle.heif.specs.Clli.{clli-payload}
+use Rattle.heif.specs.Ispe.{tone-ispe}
+use Rattle.heif.specs.Ipco.{tone-slots, gain-slots, held, properties}
+use Rattle.heif.proofs.Colr.{nclx-inj, colour-inj, alternates-inj}
+use Rattle.heif.proofs.Imir.{orientation-inj}
+use Rattle.heif.proofs.Clli.{light-inj}
+use Rattle.heif.proofs.Ispe.{ispe-inj}
 
 -- the depth of a pixi's first channel, of the box at n
 depth-at : ℕ → List Box → ℕ

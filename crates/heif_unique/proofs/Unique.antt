@@ -1,7 +1,6 @@
 -- Demand 3: two accepted panels have the same file exactly when they agree.
 use mathlib.Core.Path.{_≡_, refl, sym, ap, _∙_}
 use mathlib.Core.Logic.{_↔_}
-use mathlib.Core.Option.{Option, none, some}
 use mathlib.Core.List.{List, [], _∷_, flatten, flatMap}
 use Prim.Native.Nat.{ℕ, _+_, _*_, _-_, _/_, _%_, _^_, _<_}
 use native.Mathlib.Omega.{arith}
@@ -11,19 +10,26 @@ use Rattle.octets.specs.Boxes.{Box, boxes}
 use Rattle.octets.proofs.Lists.{cancel}
 use Rattle.octets.proofs.Numbers.{be-inj, skip-be}
 use Rattle.octets.proofs.Boxes.{body-at, length-body-at, boxes-inj}
 use Rattle.panel.specs.Panel.{Panel}
 use Rattle.panel.specs.Agreement.{norm, Agree}
 use Rattle.panel.specs.Widths.{Fits}
-use Rattle.panel.specs.Items.{Form, shape, colour-grid, exif-payload, payloads}
-use Rattle.panel.specs.Iloc.{descriptor, locations, entry}
-use Rattle.panel.specs.Ipco.{slots, ipco, properties}
-use Rattle.panel.specs.Ipma.{positions, associations, ipma}
-use Rattle.panel.specs.File.{head, grpl, idat, meta-boxes, meta, mdat, data-at, file}
-use Rattle.panel.specs.Refusal.{refusal}
-use Rattle.panel.proofs.Properties.{same-fields, gain-length, gain-inj}
-use Rattle.panel.proofs.Payloads.{Same-payloads, same-payloads, cut-inj}
-use Rattle.panel.proofs.Accepted.{Accepted, accepted}
-use Rattle.panel.proofs.Norm.{file-norm}
+use Rattle.panel.specs.Form.{Form}
+use Rattle.heif.specs.Items.{shape, colour-grid}
+use Rattle.heif.specs.Mdat.{payloads, mdat}
+use Rattle.heif.specs.Idat.{descriptor, idat}
+use Rattle.heif.specs.Iloc.{locations, entry}
+use Rattle.heif.specs.Ipco.{slots, ipco, properties}
+use Rattle.heif.specs.Ipma.{positions, associations, ipma}
+use Rattle.heif.specs.Ftyp.{head}
+use Rattle.heif.specs.Grpl.{grpl}
+use Rattle.heif.specs.Meta.{meta-boxes, meta}
+use Rattle.heif.specs.File.{data-at, file}
+use Rattle.heif.specs.Refusal.{refusal}
+use Rattle.heif.proofs.Mdat.{cut-inj, exif-inj}
+use Rattle.heif.proofs.Refusal.{Accepted, accepted}
+use Rattle.heif_unique.proofs.Properties.{same-fields, gain-length, gain-inj}
+use Rattle.heif_unique.proofs.Payloads.{Same-payloads, same-payloads}
+use Rattle.heif_unique.proofs.Norm.{file-norm}
 
 -- ---- parts that may be absent
 
@@ -36,14 +42,6 @@ last-append : (d : Box) (l : List Box) (b : Box) → last-box d (l ‖ b ∷ [])
 unfolding last-box
 last-append d [] b = refl
 last-append d (c ∷ l) b = last-append c l b
-
-exif-inj : (s t : Option (List ℕ)) {x y : List (List ℕ)} → length x ≡ length y → exif-payload s ‖ x ≡ exif-payload t ‖ y → (s ≡ t) × (x ≡ y)
-exif-inj none none n e = (refl, e)
-exif-inj none (some v) n e = absurd (omega (arith, ap length e))
-exif-inj (some u) none n e = absurd (omega (arith, ap length e))
-exif-inj (some u) (some v) n e =
-    let w : be 4 0 ‖ u ≡ be 4 0 ‖ v = cc in
-    (ap some (cancel (be 4 0) (be 4 0) refl w .1), cc)
 
 -- ---- every list of boxes in an accepted file has fewer than 2³² bytes
 

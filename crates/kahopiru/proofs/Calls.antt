@@ -4,15 +4,17 @@ use mathlib.Core.Bool.{Bool, true, false}
 use mathlib.Core.List.{List}
 use Prim.Native.Nat.{ℕ}
 use lib.ListN.{length}
-use Rattle.panel.specs.Of.{Lent, panel-of}
-use Rattle.panel.specs.Items.{ordinary}
-use Rattle.panel.specs.Answer.{Outcome, refused, length-answer, Promised}
+use Rattle.panel.specs.Lent.{Lent}
+use Rattle.panel.specs.Of.{panel-of}
+use Rattle.panel.specs.Form.{ordinary}
+use Rattle.panel.specs.Outcome.{Outcome, refused}
 use Rattle.panel.specs.declared.Panel.{Panel as Numbers}
-use Rattle.numbers.specs.Values.{panel-value}
-use Rattle.numbers.specs.Known.{panel-known}
-use Rattle.interface.specs.Told.{told}
-use Rattle.interface.specs.declared.PanelCodes.{PanelCodes}
-use Rattle.interface.specs.declared.Told.{Told}
+use Rattle.heif.specs.Answer.{length-answer, Promised}
+use Rattle.c_types.specs.Told.{told}
+use Rattle.c_types.specs.declared.PanelCodes.{PanelCodes}
+use Rattle.c_types.specs.declared.Told.{Told}
+use Rattle.c_numbers.specs.Values.{panel-value}
+use Rattle.c_numbers.specs.Known.{panel-known}
 use Rattle.kahopiru.specs.Calls.{said-length, said, after-call}
 
 module _ (c : PanelCodes) (l : Lent) {b : Bool} (k : b ≡ panel-known c) where

@@ -2,11 +2,13 @@
 use mathlib.Core.Option.{none, some}
 use mathlib.Core.List.{List}
 use Prim.Native.Nat.{ℕ}
-use Rattle.panel.specs.Of.{Lent, panel-of}
-use Rattle.panel.specs.Items.{ordinary}
-use Rattle.panel.specs.Answer.{Outcome, refused, length-answer, write-answer, after}
-use Rattle.numbers.specs.Numbers.{numbers-of}
-use Rattle.interface.specs.declared.PanelCodes.{PanelCodes}
+use Rattle.panel.specs.Lent.{Lent}
+use Rattle.panel.specs.Of.{panel-of}
+use Rattle.panel.specs.Form.{ordinary}
+use Rattle.panel.specs.Outcome.{Outcome, refused}
+use Rattle.heif.specs.Answer.{length-answer, write-answer, after}
+use Rattle.c_types.specs.declared.PanelCodes.{PanelCodes}
+use Rattle.c_numbers.specs.Numbers.{numbers-of}
 
 -- of the length call: 13 where a code stands for nothing, before all checks
 unfoldable pub said-length : PanelCodes → Lent → Outcome

@@ -6,19 +6,19 @@ pub mod tile;
 
 ghost use mathlib.Core.Path.{_≡_};
 ghost use lib.ListN.{length};
-ghost use Rattle.panel.specs.Answer.{says};
-ghost use Rattle.layout.specs.Lent.{lent};
-ghost use Rattle.interface.specs.Told.{told};
+ghost use Rattle.panel.specs.Outcome.{says};
+ghost use Rattle.panel.specs.Lent.{lent};
+ghost use Rattle.c_types.specs.Told.{told};
 ghost use Rattle.kahopiru.specs.Calls.{said-length, said, after-call};
-use interface::PanelCodes;
-use interface::Told;
-use interface::unknown_code;
-use layout::file_length;
-use numbers::known::panel_known;
-use numbers::values::panel_value;
+use c_numbers::known::panel_known;
+use c_numbers::values::panel_value;
+use c_types::PanelCodes;
+use c_types::Told;
+use c_types::unknown_code;
 use panel::Answer;
-use sheet_file::refusal_number;
-use wrap::wrap_hevc_grid_with_alpha;
+use panel::refusal_number;
+use plan::file_length;
+use write_file::wrap_hevc_grid_with_alpha;
 
 // An answer in numbers.
 fn tell(a: Answer) -> Told

@@ -3,8 +3,8 @@ ghost use mathlib.Core.Path.{_≡_};
 ghost use lib.ListN.{length};
 ghost use Rattle.sheet.specs.Answer.{sheet-answer, sheet-after};
 ghost use Rattle.sheet_file.specs.Says.{sheet-says};
-ghost use Rattle.interface.specs.Told.{told};
-use interface::Told;
+ghost use Rattle.c_types.specs.Told.{told};
+use c_types::Told;
 use sheet_file::SheetAnswer;
 use sheet_file::sheet_file;
 

@@ -1,10 +1,10 @@
 // The tile lookup by numbers: since a reference can't be returned to C, where the tile's payload lies.
 ghost use mathlib.Core.Path.{_≡_};
-ghost use Rattle.tiles.specs.Lookup.{lent-tiles, tile-span};
+ghost use Rattle.plan_tile.specs.Lookup.{lent-tiles, tile-span};
 ghost use Rattle.kahopiru.specs.Tile.{tile-told};
-use octets::when;
 use panel::ItemId;
-use tiles::tile_span;
+use panel::part::when;
+use plan_tile::tile_span;
 
 // Where a tile's payload lies: in the alpha samples where `alpha` is 1, else in the colour samples, from `start` on, `length` bytes.
 // Where `refusal` is not 0, all else is 0.

@@ -1,7 +1,6 @@
 -- Laws of lists that the library does not have: cancelling fronts of equal length, a choice of two, sums, and lists printed element by element.
 use mathlib.Core.Path.{_≡_, refl, sym, ap, _∙_}
 use mathlib.Core.Bool.{Bool, true, false, cond}
-use mathlib.Core.Bool.{Bool, true, false, cond}
 use mathlib.Core.List.{List, [], _∷_, _++_, map, flatten, flatMap, append-assoc, append-nil}
 use Prim.Native.Nat.{ℕ, _+_, _*_, _≤_, _<_}
 use native.Mathlib.Nat.{zero-mul, suc-mul}
@@ -110,3 +109,6 @@ module _ {A : Type 0} (print : A → List ℕ) where
         let r = cancel (print a) (print b) (wide a ∙ sym (wide b)) e in
         let w = flatMap-inj read h same l m (r .1) in
         λ i. same a b (r .0) i ∷ w i
+
+pub pictures-joined : {A : Type 0} (t u r : List A) (g h : A) → (t ++ (g ∷ [])) ++ ((u ++ (h ∷ [])) ++ r) ≡ t ++ (g ∷ (u ++ (h ∷ r)))
+pictures-joined t u r g h = append-assoc t (g ∷ []) _ ∙ ap (λ (x : List _). t ++ (g ∷ x)) (append-assoc u (h ∷ []) r)

@@ -1,6 +1,6 @@
 -- 14496-12, 4.2: boxes. A box is its size in 32 bits, its type of four characters, and its body.
-use mathlib.Core.List.{List, [], _∷_}
 use mathlib.Core.Option.{Option, none, some}
+use mathlib.Core.List.{List, [], _∷_}
 use Prim.Native.Nat.{ℕ, _+_}
 use Prim.Native.String.{String}
 use lib.ListN.{length, getD}

@@ -2,8 +2,8 @@
 use mathlib.Core.List.{List, [], _∷_, _++_}
 use Prim.Native.Nat.{ℕ, zero, suc, _+_, _*_, _/_, _%_, _^_}
 use Prim.Native.Char.{code}
-use lib.ListN.{length}
 use Prim.Native.String.{String, [] as ε, _∷_ as _◂_}
+use lib.ListN.{length}
 
 infixr 60 _‖_
 -- one list after the other: the library's append, grouped to the right

@@ -3,7 +3,6 @@
 // Each function that writes takes a position and answers the one behind what it wrote. specs/ holds the definitions of numbers, boxes and
 // writes, and proofs/ their laws, once for all crates.
 ghost use mathlib.Core.Path.{_≡_};
-ghost use mathlib.Core.Bool.{cond};
 ghost use Prim.Native.Nat.{_+_, _≤_, _<_};
 ghost use lib.ListN.{length};
 ghost use Rattle.octets.specs.Numbers.{_‖_, be};
@@ -74,14 +73,6 @@ pub fn write_fullbox(
     let b = w8(out, a, ver);
     let c = w8(out, b, (flags / 65536 % 256) as u8);
     w16(out, c, (flags % 65536) as u16)
-}
-
-// A number if so, else 0.
-pub fn when(b: bool, n: u32) -> u32
-    ensures { λ r. ⌜ r ≡ cond b n 0 ⌝ }
-    ensures { λ r. ⌜ r ≤ n ⌝ }
-{
-    if b { n } else { 0 }
 }
 
 // The size of a box with a body of so many bytes behind `head`.

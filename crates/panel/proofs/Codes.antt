@@ -20,9 +20,7 @@ use Rattle.panel.specs.declared.color.TransferFunction.{TransferFunction
 use Rattle.panel.specs.declared.color.TransferFunction.the-variants as T
 use Rattle.panel.specs.declared.color.MatrixCoefficients.{MatrixCoefficients}
 use Rattle.panel.specs.declared.color.MatrixCoefficients.the-variants as M
-
-pub some-inj : {A : Type 0} {a b : A} → some a ≡ some b → a ≡ b
-some-inj e = cc
+use Rattle.panel.proofs.Parts.{some-inj}
 
 module _ {A : Type 0} (code : A → ℕ) where
   abbrev below : ℕ → List A → Bool

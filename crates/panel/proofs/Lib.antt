@@ -1,10 +1,5 @@
-pub mod Ids
-pub mod Forms
+pub mod Parts
 pub mod Codes
-pub mod Fields
-pub mod Properties
-pub mod Payloads
-pub mod Accepted
+pub mod Form
+pub mod Agreement
 pub mod Widths
-pub mod Norm
-pub mod Unique

@@ -3,7 +3,8 @@ use mathlib.Core.List.{List}
 use borrow.Author.Needs.{needs}
 use mir.Val.{Val}
 use denote.Laws.{Is}
-use Rattle.panel.specs.Of.{Lent, light-of, gain-of, panel-of}
+use Rattle.panel.specs.Lent.{Lent}
+use Rattle.panel.specs.Of.{light-of, gain-of, panel-of}
 use Rattle.panel.specs.Widths.{Of, Light-fits, Gain-fits, Fits}
 use Rattle.panel.specs.declared.metadata.MaybeLightLevel.{MaybeLightLevel}
 use Rattle.panel.specs.declared.metadata.MaybeLightLevel.the-variants as L

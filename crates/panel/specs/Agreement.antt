@@ -1,17 +1,11 @@
 -- When two panels agree: every field is the same after the two agreements. Nothing here speaks of the file.
 use mathlib.Core.Path.{_≡_}
-use mathlib.Core.Bool.{true}
 use mathlib.Core.Option.{Option, none, some}
 use mathlib.Core.List.{List}
 use Prim.Native.Nat.{ℕ}
 use Rattle.panel.specs.Panel.{Colour, Gain, Panel}
-use Rattle.panel.specs.declared.color.Primaries.the-variants as P
-use Rattle.panel.specs.declared.color.TransferFunction.the-variants as T
-use Rattle.panel.specs.declared.color.MatrixCoefficients.the-variants as M
+use Rattle.panel.specs.Types.{unspecified}
 use Rattle.panel.specs.declared.color.Cicp.{Cicp}
-
-abbrev pub unspecified : Cicp
-unspecified = record { primaries = P.Unspecified; transfer = T.Unspecified; matrix = M.Unspecified; «full_range» = true }
 
 -- unstated colour is read as unspecified full-range
 abbrev pub stated : Option Cicp → Option (List ℕ) → Colour

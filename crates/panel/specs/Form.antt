@@ -1,9 +1,18 @@
--- The forms of a file that a caller can name, and what the code asks of one.
+-- The forms of a file: what a form is, the ones that a caller can name, and what the code asks of one.
 use mathlib.Core.Path.{_≡_}
 use mathlib.Core.Bool.{Bool, cond}
-use Rattle.panel.specs.Items.{Form, ordinary}
+use Prim.Native.Nat.{ℕ}
 use Rattle.panel.specs.declared.FileForm.{FileForm}
 use Rattle.panel.specs.declared.FileForm.the-variants.{Ordinary}
+
+-- a form of the file: how many bytes an item's id takes, and a count of items; and what the versions of the boxes that hold them gain by it
+pub record Form : Type 0 where
+  pub id : ℕ
+  pub count : ℕ
+  pub step : ℕ
+
+abbrev pub ordinary : Form
+ordinary = record { id = 2; count = 2; step = 0 }
 
 unfoldable pub form-of : FileForm → Form
 form-of Ordinary = ordinary

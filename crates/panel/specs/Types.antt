@@ -1,4 +1,4 @@
--- The code's enums as numbers: depths, code points, orientations.
+-- The code's enums as numbers: depths, code points, orientations; and the colour of which nothing is stated.
 use mathlib.Core.Bool.{Bool, true, false}
 use mathlib.Core.Option.{Option, none, some}
 use Prim.Native.Nat.{ℕ}
@@ -20,6 +20,7 @@ use Rattle.panel.specs.declared.metadata.Orientation.{Orientation}
 use Rattle.panel.specs.declared.metadata.Orientation.the-variants.{Normal, FlipH, Rotate180, FlipV, Transpose, Rotate90, Transverse, Rotate270}
 use Rattle.panel.specs.declared.metadata.ImirAxis.{ImirAxis}
 use Rattle.panel.specs.declared.metadata.ImirAxis.the-variants as A
+use Rattle.panel.specs.declared.color.Cicp.{Cicp}
 
 abbrev pub bits : BitDepth → ℕ
 bits Eight = 8
@@ -121,3 +122,7 @@ imir-axis Rotate270 = none
 abbrev pub maybe-axis : ImirAxis → Option Bool
 maybe-axis A.None = none
 maybe-axis (A.Some x) = some x
+
+-- colour of which nothing is stated but the full range
+abbrev pub unspecified : Cicp
+unspecified = record { primaries = P.Unspecified; transfer = T.Unspecified; matrix = M.Unspecified; «full_range» = true }

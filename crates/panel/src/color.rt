@@ -1,9 +1,9 @@
 // Colour: the code points of ISO/IEC 23091-2 (CICP), and how a picture states its colour.
 ghost use mathlib.Core.Path.{_≡_};
-ghost use Rattle.panel.specs.Types.{primaries-code, maybe-primaries, transfer-code, maybe-transfer, matrix-code, maybe-matrix};
+ghost use Rattle.panel.specs.Types.{primaries-code, maybe-primaries, transfer-code, maybe-transfer, matrix-code, maybe-matrix, unspecified};
 ghost use Rattle.panel.specs.Codes.{primaries-named, transfer-named, matrix-named};
-ghost use Rattle.panel.specs.Items.{has};
-ghost use Rattle.panel.specs.Agreement.{unspecified};
+ghost use Rattle.panel.specs.Parts.{has};
+use crate::part::Part;
 
 // Colour primaries (ISO/IEC 23091-2, table 2).
 pub enum Primaries {
@@ -297,12 +297,6 @@ impl Cicp {
 pub enum MaybeCicp {
     Some(Cicp),
     None,
-}
-
-// Whether a byte part belongs to the panel. Bytes lent beside an absent part are not looked at.
-pub enum Part {
-    Absent,
-    Present,
 }
 
 // How a picture states its colour: by code points, by an ICC profile lent beside it, by both, or not at all.

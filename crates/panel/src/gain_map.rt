@@ -1,8 +1,8 @@
 // The numbers of a gain map. Its record, sample, XMP and tone map bytes, and the ICC profile of its alternate colour, are lent beside it.
 use crate::color::Cicp;
 use crate::color::MaybeColorMetadata;
-use crate::color::Part;
 use crate::fmt::BitDepth;
+use crate::part::Part;
 
 pub struct EncodedGainMap {
     pub width: u32,

@@ -1,14 +1,17 @@
 // The types of a panel and of what a call answers.
 //
-// specs/ holds the definition of the file, box by box, and proofs/ the theorem that one file is one panel. Byte parts (decoder
-// configuration records, samples, ICC profiles, Exif, XMP, tone map) are lent as slices beside a `Panel`.
+// Byte parts (decoder configuration records, samples, ICC profiles, Exif, XMP, tone map) are lent as slices beside a `Panel`. specs/ holds the
+// pure panel that numbers and slices stand for, and when two panels agree; the file that a panel has is defined in `heif`.
 
 pub mod color;
 pub mod fmt;
 pub mod gain_map;
 pub mod metadata;
+pub mod part;
 
-ghost use Rattle.panel.specs.Forms.{form-of, Form-widths};
+ghost use mathlib.Core.Path.{_≡_};
+ghost use Rattle.panel.specs.Form.{form-of, Form-widths};
+ghost use Rattle.panel.specs.Outcome.{number};
 use crate::color::ColorMetadata;
 use crate::fmt::BitDepth;
 use crate::gain_map::MaybeGainMap;
@@ -81,6 +84,20 @@ pub enum Refusal {
     FileLength,
     // 6: the output is shorter than the file.
     OutputLength,
+}
+
+// The number of a refusal.
+pub fn refusal_number(r: Refusal) -> u8
+    ensures { λ k. ⌜ k ≡ number r ⌝ }
+{
+    match r {
+        Refusal::GridSide => 1,
+        Refusal::TileCount => 2,
+        Refusal::SampleLengths => 3,
+        Refusal::ItemIds => 4,
+        Refusal::FileLength => 5,
+        Refusal::OutputLength => 6,
+    }
 }
 
 // What a call answers: the file's length, or why it refuses.

@@ -1,7 +1,7 @@
 // Orientation, light level and Exif.
 ghost use mathlib.Core.Path.{_≡_};
 ghost use Rattle.panel.specs.Types.{irot-steps, imir-axis, maybe-axis};
-use crate::color::Part;
+use crate::part::Part;
 
 // The eight orientations, in Exif's order.
 pub enum Orientation {

@@ -4,22 +4,22 @@ use mathlib.Core.Option.{Option, none, some, bind}
 use mathlib.Core.List.{List, [], _∷_}
 use Prim.Native.Nat.{ℕ}
 use Rattle.panel.specs.Codes.{named, primaries-named, transfer-named, matrix-named}
-use Rattle.panel.specs.Items.{has}
+use Rattle.panel.specs.Parts.{has}
 use Rattle.panel.specs.declared.color.Cicp.{Cicp}
-use Rattle.panel.specs.declared.color.Part.{Part}
-use Rattle.panel.specs.declared.color.Part.the-variants.{Absent, Present}
+use Rattle.panel.specs.declared.part.Part.{Part}
+use Rattle.panel.specs.declared.part.Part.the-variants.{Absent, Present}
 use Rattle.panel.specs.declared.fmt.BitDepth.{BitDepth}
 use Rattle.panel.specs.declared.fmt.BitDepth.the-variants.{Eight, Ten, Twelve}
 use Rattle.panel.specs.declared.metadata.Orientation.{Orientation}
 use Rattle.panel.specs.declared.metadata.Orientation.the-variants.{Normal, FlipH, Rotate180, FlipV, Transpose, Rotate90, Transverse, Rotate270}
-use Rattle.codes.specs.declared.MaybeDepth.{MaybeDepth}
-use Rattle.codes.specs.declared.MaybeDepth.the-variants as D
-use Rattle.codes.specs.declared.MaybeOrientation.{MaybeOrientation}
-use Rattle.codes.specs.declared.MaybeOrientation.the-variants as O
-use Rattle.codes.specs.declared.MaybeBool.{MaybeBool}
-use Rattle.codes.specs.declared.MaybeBool.the-variants as B
-use Rattle.codes.specs.declared.CodeKind.{CodeKind}
-use Rattle.codes.specs.declared.CodeKind.the-variants as K
+use Rattle.panel_codes.specs.declared.MaybeDepth.{MaybeDepth}
+use Rattle.panel_codes.specs.declared.MaybeDepth.the-variants as D
+use Rattle.panel_codes.specs.declared.MaybeOrientation.{MaybeOrientation}
+use Rattle.panel_codes.specs.declared.MaybeOrientation.the-variants as O
+use Rattle.panel_codes.specs.declared.MaybeBool.{MaybeBool}
+use Rattle.panel_codes.specs.declared.MaybeBool.the-variants as B
+use Rattle.panel_codes.specs.declared.CodeKind.{CodeKind}
+use Rattle.panel_codes.specs.declared.CodeKind.the-variants as K
 
 -- ---- depth
 

@@ -1,12 +1,12 @@
 // Parts that may be left out: each function gives a part where it is present, else none.
 ghost use mathlib.Core.Path.{_≡_};
 ghost use mathlib.Core.Bool.{cond};
-ghost use Rattle.codes.specs.Codes.{part-if};
+ghost use Rattle.panel_codes.specs.Codes.{part-if};
 use panel::color::MaybeCicp;
 use panel::color::MaybeColorMetadata;
-use panel::color::Part;
 use panel::gain_map::MaybeGainMap;
 use panel::metadata::MaybeLightLevel;
+use panel::part::Part;
 
 pub fn part_if(present: bool) -> Part
     ensures { λ r. ⌜ r ≡ part-if present ⌝ }

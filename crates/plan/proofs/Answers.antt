@@ -8,27 +8,32 @@ use native.Mathlib.Omega.{arith}
 use lib.Dec.{ltb}
 use lib.ListN.{length}
 use borrow.Author.Tests.{lt-ltb, le-ltb, ltb-false}
+use Rattle.octets.proofs.Tests.{or-false}
 use Rattle.panel.specs.Panel.{Panel}
-use Rattle.panel.specs.Of.{Lent, gain-of, panel-of}
-use Rattle.panel.specs.Items.{Form, shape}
-use Rattle.panel.specs.File.{rext, gain-rext, file}
-use Rattle.panel.specs.Refusal.{bad-side, bad-grid, differ, bad-counts, bad-sum, bad-items, checks, refusal}
-use Rattle.panel.specs.Answer.{made, refused, outcome, length-answer}
+use Rattle.panel.specs.Lent.{Lent}
+use Rattle.panel.specs.Of.{gain-of, panel-of}
+use Rattle.panel.specs.Form.{Form}
+use Rattle.panel.specs.Outcome.{made, refused, outcome}
 use Rattle.panel.specs.declared.Panel.{Panel as Numbers}
 use Rattle.panel.specs.declared.Shape.{Shape}
-use Rattle.panel.proofs.Accepted.{accepted as is-accepted}
-use Rattle.length.specs.Parts.{Even}
-use Rattle.length.specs.Size.{descriptor-size, size}
-use Rattle.length.proofs.File.{length-file, length-descriptor, even-accepted}
-use Rattle.octets.proofs.Tests.{or-false}
-use Rattle.checks.proofs.Tests.{same, Decides, pass, stop}
-use Rattle.sizes.specs.Capped.{Capped}
-use Rattle.sizes.specs.Sized.{Sized}
-use Rattle.sizes.specs.declared.Sizes.{Sizes}
-use Rattle.offsets.specs.Laid.{Given, Within}
-use Rattle.offsets.proofs.Exact.{within}
-use Rattle.layout.specs.Plan.{Passes, Made-from}
-use Rattle.layout.specs.declared.FilePlan.{FilePlan}
+use Rattle.heif.specs.Items.{shape, Even}
+use Rattle.heif.specs.Hvcc.{rext}
+use Rattle.heif.specs.Ftyp.{gain-rext}
+use Rattle.heif.specs.File.{file, size}
+use Rattle.heif.specs.Refusal.{bad-side, bad-grid, differ, bad-counts, bad-sum, bad-items, checks, refusal}
+use Rattle.heif.specs.Answer.{length-answer}
+use Rattle.heif.specs.Idat.{descriptor-size}
+use Rattle.heif.proofs.Refusal.{accepted as is-accepted, even-accepted}
+use Rattle.heif.proofs.File.{length-file}
+use Rattle.heif.proofs.Idat.{length-descriptor}
+use Rattle.plan_checks.proofs.Tests.{same, Decides, pass, stop}
+use Rattle.plan_sizes.specs.Capped.{Capped}
+use Rattle.plan_sizes.specs.Sized.{Sized}
+use Rattle.plan_sizes.specs.declared.Sizes.{Sizes}
+use Rattle.plan_layout.specs.Laid.{Given, Within}
+use Rattle.plan_layout.proofs.Exact.{within}
+use Rattle.plan.specs.Plan.{Passes, Made-from}
+use Rattle.plan.specs.declared.FilePlan.{FilePlan}
 
 -- ---- the checks decide
 

@@ -4,20 +4,23 @@ use mathlib.Core.Bool.{false, _||_}
 use Prim.Native.Nat.{_*_, _≤_}
 use lib.ListN.{length}
 use Rattle.panel.specs.Panel.{Panel}
-use Rattle.panel.specs.Of.{Lent, panel-of}
-use Rattle.panel.specs.Items.{Form, shape}
-use Rattle.panel.specs.File.{file}
-use Rattle.panel.specs.Refusal.{bad-grid, bad-counts, bad-sum, bad-items, refusal}
-use Rattle.panel.specs.Answer.{refused, number, length-answer}
-use Rattle.places.specs.Roles.{Placed, Narrow-places}
-use Rattle.offsets.specs.Laid.{Laid}
+use Rattle.panel.specs.Lent.{Lent}
+use Rattle.panel.specs.Of.{panel-of}
+use Rattle.panel.specs.Form.{Form}
+use Rattle.panel.specs.Outcome.{refused, number}
 use Rattle.panel.specs.declared.Panel.{Panel as Numbers}
 use Rattle.panel.specs.declared.Shape.{Shape}
-use Rattle.layout.specs.declared.Checked.{Checked}
-use Rattle.layout.specs.declared.Checked.the-variants as C
-use Rattle.layout.specs.declared.FilePlan.{FilePlan}
-use Rattle.layout.specs.declared.Plan.{Plan}
-use Rattle.layout.specs.declared.Plan.the-variants.{Refused, Made}
+use Rattle.heif.specs.Items.{shape}
+use Rattle.heif.specs.File.{file}
+use Rattle.heif.specs.Refusal.{bad-grid, bad-counts, bad-sum, bad-items, refusal}
+use Rattle.heif.specs.Answer.{length-answer}
+use Rattle.plan_positions.specs.Roles.{Placed, Narrow-places}
+use Rattle.plan_layout.specs.Laid.{Laid}
+use Rattle.plan.specs.declared.Checked.{Checked}
+use Rattle.plan.specs.declared.Checked.the-variants as C
+use Rattle.plan.specs.declared.FilePlan.{FilePlan}
+use Rattle.plan.specs.declared.Plan.{Plan}
+use Rattle.plan.specs.declared.Plan.the-variants.{Refused, Made}
 
 -- none of the first four checks holds, and s is the shape
 pub record Passes (f : Form) (n : Numbers) (l : Lent) (s : Shape) : Type 0 where

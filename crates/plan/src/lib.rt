@@ -1,35 +1,33 @@
 // The plan of a panel's file, computed from lengths alone before anything is written; and the length call.
 ghost use mathlib.Core.Path.{_≡_};
-ghost use Prim.Native.Nat.{_≤_};
-ghost use Rattle.panel.specs.Of.{Lent, panel-of};
-ghost use Rattle.panel.specs.Items.{ordinary};
-ghost use Rattle.panel.specs.Forms.{form-of};
-ghost use Rattle.panel.specs.Refusal.{last-id, bad-id, bad-items};
+ghost use Rattle.panel.specs.Lent.{Lent, lent};
+ghost use Rattle.panel.specs.Of.{panel-of};
+ghost use Rattle.panel.specs.Form.{ordinary, form-of};
 ghost use Rattle.panel.specs.Widths.{Fits};
-ghost use Rattle.panel.specs.Answer.{says, length-answer};
-ghost use Rattle.layout.specs.Lent.{lent};
-ghost use Rattle.layout.specs.Plan.{First, Planned};
-use boxes::ftyp::hvcc_uses_rext;
-use checks::bad_counts;
-use checks::bad_grid;
-use checks::bad_sums;
-use checks::shape::last_id;
-use checks::shape::shape_of;
-use grids::descriptor_length;
-use offsets::Layout;
-use offsets::file_size;
-use offsets::placed;
+ghost use Rattle.panel.specs.Outcome.{says};
+ghost use Rattle.heif.specs.Answer.{length-answer};
+ghost use Rattle.plan.specs.Plan.{First, Planned};
 use panel::Answer;
 use panel::FileForm;
 use panel::Panel;
 use panel::Refusal;
 use panel::Shape;
-use places::Places;
-use places::places_of;
-use sizes::gain_uses_rext;
-use sizes::lengths::gain_lengths;
-use sizes::lengths::lengths_of;
-use sizes::sizes_of;
+use plan_checks::bad_counts;
+use plan_checks::bad_grid;
+use plan_checks::bad_items;
+use plan_checks::bad_sums;
+use plan_items::brands::gain_uses_rext;
+use plan_items::brands::hvcc_uses_rext;
+use plan_items::grid::descriptor_length;
+use plan_items::shape::shape_of;
+use plan_layout::Layout;
+use plan_layout::file_size;
+use plan_layout::placed;
+use plan_positions::Places;
+use plan_positions::places_of;
+use plan_sizes::lengths::gain_lengths;
+use plan_sizes::lengths::lengths_of;
+use plan_sizes::sizes_of;
 
 // What a file is made from: its length, where each of its boxes lies, and the places of its properties.
 pub struct FilePlan {
@@ -48,27 +46,6 @@ pub enum Plan {
 pub enum Checked {
     Refused(Refusal),
     Passed(Shape),
-}
-
-// Whether the last id does not fit in the bytes that the form has for it.
-fn bad_last_id(form: FileForm, s: Shape) -> bool
-    requires { ⌜ s .tiles ≤ 65536 ⌝ }
-    ensures { λ r. ⌜ r ≡ bad-id (form-of form .id) (last-id s) ⌝ }
-{
-    let id = last_id(s);
-    if form.is_wide() {
-        // 32 bits hold the last id of so many tiles.
-        return false;
-    }
-    65535 < id
-}
-
-// Check 4: the last id does not fit, or the tiles are more than a reference can count.
-fn bad_items(form: FileForm, s: Shape) -> bool
-    requires { ⌜ s .tiles ≤ 65536 ⌝ }
-    ensures { λ r. ⌜ r ≡ bad-items (form-of form) s ⌝ }
-{
-    bad_last_id(form, s) || 65535 < s.tiles
 }
 
 // The checks 1 to 4 in their order, each with its own answer.

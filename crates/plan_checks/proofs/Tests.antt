@@ -6,12 +6,12 @@ use Prim.Native.Nat.{ℕ, _+_, _*_, _^_, _<_, _≤_}
 use native.Mathlib.Nat.{le-of-lt, lt-of-le-of-lt, mul-le-mul-left, mul-lt-mul-of-pos-right}
 use native.Mathlib.Numerals.{add-one}
 use lib.Dec.{eqb}
-use lib.Pow.{pow-pos, pow-add}
 use lib.ListN.{length, drop, getD, drop-of-length-le}
+use lib.Pow.{pow-pos, pow-add}
 use lib.Seq.{drop-cons}
 use borrow.Author.Tests.{eqb-true, not-false}
 use Rattle.octets.specs.Numbers.{total}
-use Rattle.panel.specs.Refusal.{Check, first, differ}
+use Rattle.heif.specs.Refusal.{Check, first, differ}
 
 -- ---- a list of checks decides a number
 

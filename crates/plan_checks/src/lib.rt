@@ -1,14 +1,16 @@
-// The checks 1 to 3 of a panel, each of which answers whether it refuses; and what check 4 asks of (shape).
-
-pub mod shape;
-
+// The checks 1 to 4 of a panel, each of which answers whether it refuses.
 ghost use mathlib.Core.Path.{_≡_};
 ghost use mathlib.Core.Bool.{_||_};
-ghost use Prim.Native.Nat.{_*_};
+ghost use Prim.Native.Nat.{_*_, _≤_};
 ghost use lib.Dec.{eqb};
 ghost use lib.ListN.{length};
 ghost use Rattle.octets.specs.Numbers.{total};
-ghost use Rattle.panel.specs.Refusal.{bad-side, bad-grid, differ, bad-counts};
+ghost use Rattle.panel.specs.Form.{form-of};
+ghost use Rattle.heif.specs.Refusal.{bad-side, bad-grid, differ, bad-counts, bad-id, bad-items};
+ghost use Rattle.heif.specs.Items.{last-id};
+use panel::FileForm;
+use panel::Shape;
+use plan_items::ids::last_id;
 
 // Whether rows or columns are too few or too many.
 fn bad_side(n: u32) -> bool
@@ -67,4 +69,25 @@ pub fn bad_sums(
 {
     !sums_to(color_lengths, color_samples.len() as u64)
         || !sums_to(alpha_lengths, alpha_samples.len() as u64)
+}
+
+// Whether the last id does not fit in the bytes that the form has for it.
+fn bad_last_id(form: FileForm, s: Shape) -> bool
+    requires { ⌜ s .tiles ≤ 65536 ⌝ }
+    ensures { λ r. ⌜ r ≡ bad-id (form-of form .id) (last-id s) ⌝ }
+{
+    let id = last_id(s);
+    if form.is_wide() {
+        // 32 bits hold the last id of so many tiles.
+        return false;
+    }
+    65535 < id
+}
+
+// Check 4: the last id does not fit, or the tiles are more than a reference can count.
+pub fn bad_items(form: FileForm, s: Shape) -> bool
+    requires { ⌜ s .tiles ≤ 65536 ⌝ }
+    ensures { λ r. ⌜ r ≡ bad-items (form-of form) s ⌝ }
+{
+    bad_last_id(form, s) || 65535 < s.tiles
 }

@@ -5,8 +5,8 @@ use Prim.Native.Nat.{_+_, _≤_, _<_}
 use lib.Dec.{ltb}
 use borrow.Author.Tests.{lt-ltb, le-ltb, ltb-false}
 use Rattle.octets.proofs.Tests.{or-false}
-use Rattle.panel.specs.Iloc.{wide}
 use Rattle.panel.specs.declared.GridDims.{GridDims}
+use Rattle.heif.specs.Idat.{wide}
 
 -- a great width decides, and behind a small one the height
 pub by-width : (d : GridDims) → 65535 < d .«full_w» → ltb 65535 (d .«full_w») ≡ wide d

@@ -2,8 +2,8 @@
 use mathlib.Core.Option.{Option, none, some}
 use lib.ListN.{length}
 use Rattle.panel.specs.Panel.{Gain}
-use Rattle.length.specs.Parts.{long}
-use Rattle.locations.specs.declared.PayloadLengths.{PayloadLengths}
+use Rattle.panel.specs.Parts.{long}
+use Rattle.plan_items.specs.declared.payloads.PayloadLengths.{PayloadLengths}
 
 abbrev pub payload-lengths : Option Gain → PayloadLengths
 payload-lengths none = record { sample = 0; xmp = 0; tmap = 0 }

@@ -1,17 +1,17 @@
 // Which items a file has, and which parts are present.
 ghost use mathlib.Core.Path.{_≡_};
 ghost use mathlib.Core.List.{List};
-ghost use Prim.Native.Nat.{ℕ, _≤_};
+ghost use Prim.Native.Nat.{ℕ};
 ghost use lib.ListN.{length};
-ghost use Rattle.panel.specs.Of.{Lent, panel-of, part, cicp-of, gain-of};
-ghost use Rattle.panel.specs.Items.{has, tone-of, shape};
-ghost use Rattle.panel.specs.Refusal.{last-id};
-use octets::when;
+ghost use Rattle.panel.specs.Lent.{Lent};
+ghost use Rattle.panel.specs.Of.{panel-of, part, cicp-of, gain-of};
+ghost use Rattle.panel.specs.Parts.{has, tone-of};
+ghost use Rattle.heif.specs.Items.{shape};
 use panel::Panel;
 use panel::Shape;
 use panel::color::MaybeCicp;
-use panel::color::Part;
 use panel::gain_map::MaybeGainMap;
+use panel::part::Part;
 
 // Whether a byte part belongs to the panel.
 pub fn is_present(p: Part) -> bool
@@ -73,13 +73,4 @@ pub fn shape_of(panel: Panel, tiles: u32) -> Shape
         gain: parts.gain,
         tone: parts.tone,
     }
-}
-
-// The last item id, which check 4 asks for.
-pub fn last_id(s: Shape) -> u32
-    requires { ⌜ s .tiles ≤ 65536 ⌝ }
-    ensures { λ r. ⌜ r ≡ last-id s ⌝ }
-    ensures { λ r. ⌜ r ≤ 131078 ⌝ }
-{
-    2 * s.tiles + 2 + when(s.exif, 1) + when(s.gain, 2) + when(s.tone, 1)
 }

@@ -4,25 +4,36 @@ use Prim.Native.Nat.{_+_, _≤_}
 use native.Mathlib.Omega.{arith}
 use lib.ListN.{length}
 use Rattle.panel.specs.Panel.{Panel}
-use Rattle.panel.specs.Items.{Form, shape}
-use Rattle.panel.specs.Iloc.{locations, iloc}
-use Rattle.panel.specs.Iinf.{iinf}
-use Rattle.panel.specs.Iref.{iref}
-use Rattle.panel.specs.Ipco.{slots, ipco}
-use Rattle.panel.specs.Ipma.{positions, associations, ipma}
-use Rattle.panel.specs.File.{head, iprp, idat, meta, mdat, data-at, file}
-use Rattle.panel.proofs.Accepted.{Accepted}
-use Rattle.length.specs.Parts.{Even}
-use Rattle.length.specs.Properties.{ipco-size}
-use Rattle.length.specs.Size.{iprp-size, meta-size, exif-size, mdat-size}
-use Rattle.locations.specs.Payloads.{payload-lengths}
-use Rattle.sizes.proofs.Caps.{together}
-use Rattle.length.proofs.Boxes.{length-iloc, length-iinf, length-iref}
-use Rattle.length.proofs.Properties.{length-ipco, length-ipma}
-use Rattle.length.proofs.File.{length-head, length-iprp, length-idat, length-meta, length-mdat, data-at-size, length-file, even-accepted}
-use Rattle.sizes.specs.Sized.{Sized}
-use Rattle.offsets.specs.Laid.{Within}
-use Rattle.sizes.specs.declared.Sizes.{Sizes}
+use Rattle.panel.specs.Form.{Form}
+use Rattle.heif.specs.Items.{shape, Even}
+use Rattle.heif.specs.Iloc.{locations, iloc}
+use Rattle.heif.specs.Iinf.{iinf}
+use Rattle.heif.specs.Iref.{iref}
+use Rattle.heif.specs.Ipco.{slots, ipco, ipco-size}
+use Rattle.heif.specs.Ipma.{positions, associations, ipma}
+use Rattle.heif.specs.Ftyp.{head}
+use Rattle.heif.specs.Iprp.{iprp, iprp-size}
+use Rattle.heif.specs.Idat.{idat}
+use Rattle.heif.specs.Meta.{meta, meta-size}
+use Rattle.heif.specs.Mdat.{mdat, exif-size, mdat-size}
+use Rattle.heif.specs.File.{data-at, file}
+use Rattle.heif.proofs.Refusal.{Accepted, even-accepted}
+use Rattle.heif.proofs.Iloc.{length-iloc}
+use Rattle.heif.proofs.Iinf.{length-iinf}
+use Rattle.heif.proofs.Iref.{length-iref}
+use Rattle.heif.proofs.Ipco.{length-ipco}
+use Rattle.heif.proofs.Ipma.{length-ipma}
+use Rattle.heif.proofs.Ftyp.{length-head}
+use Rattle.heif.proofs.Iprp.{length-iprp}
+use Rattle.heif.proofs.Idat.{length-idat}
+use Rattle.heif.proofs.Meta.{length-meta}
+use Rattle.heif.proofs.Mdat.{length-mdat}
+use Rattle.heif.proofs.File.{data-at-size, length-file}
+use Rattle.plan_items.specs.Payloads.{payload-lengths}
+use Rattle.plan_sizes.specs.Sized.{Sized}
+use Rattle.plan_sizes.specs.declared.Sizes.{Sizes}
+use Rattle.plan_sizes.proofs.Caps.{together}
+use Rattle.plan_layout.specs.Laid.{Within}
 
 -- nothing was capped
 record Exact (f : Form) (p : Panel) (z : Sizes) : Type 0 where

@@ -4,20 +4,25 @@ use mathlib.Core.Bool.{Bool}
 use Prim.Native.Nat.{ℕ, _+_, _≤_}
 use lib.ListN.{length}
 use Rattle.panel.specs.Panel.{Panel}
-use Rattle.panel.specs.Items.{Form, shape}
-use Rattle.panel.specs.Iloc.{descriptor, locations, iloc}
-use Rattle.panel.specs.Iinf.{iinf}
-use Rattle.panel.specs.Iref.{iref}
-use Rattle.panel.specs.Ipco.{slots, ipco}
-use Rattle.panel.specs.Ipma.{positions, associations, ipma}
-use Rattle.panel.specs.File.{rext, gain-rext, head, iprp, idat, meta, mdat, data-at}
+use Rattle.panel.specs.Form.{Form}
 use Rattle.panel.specs.declared.Shape.{Shape}
-use Rattle.length.specs.Parts.{Even}
-use Rattle.length.specs.Size.{exif-size}
-use Rattle.locations.specs.Payloads.{payload-lengths}
-use Rattle.sizes.specs.Sized.{Sized}
-use Rattle.sizes.specs.declared.Sizes.{Sizes}
-use Rattle.offsets.specs.declared.Layout.{Layout}
+use Rattle.heif.specs.Items.{shape, Even}
+use Rattle.heif.specs.Idat.{descriptor, idat}
+use Rattle.heif.specs.Iloc.{locations, iloc}
+use Rattle.heif.specs.Iinf.{iinf}
+use Rattle.heif.specs.Iref.{iref}
+use Rattle.heif.specs.Ipco.{slots, ipco}
+use Rattle.heif.specs.Ipma.{positions, associations, ipma}
+use Rattle.heif.specs.Hvcc.{rext}
+use Rattle.heif.specs.Ftyp.{gain-rext, head}
+use Rattle.heif.specs.Iprp.{iprp}
+use Rattle.heif.specs.Meta.{meta}
+use Rattle.heif.specs.Mdat.{mdat, exif-size}
+use Rattle.heif.specs.File.{data-at}
+use Rattle.plan_items.specs.Payloads.{payload-lengths}
+use Rattle.plan_sizes.specs.Sized.{Sized}
+use Rattle.plan_sizes.specs.declared.Sizes.{Sizes}
+use Rattle.plan_layout.specs.declared.Layout.{Layout}
 
 pub record Laid (f : Form) (p : Panel) (y : Layout) : Type 0 where
   pub items : y .shape ≡ shape p

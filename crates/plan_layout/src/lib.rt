@@ -1,11 +1,11 @@
 // Where each box of a file lies and where the payloads begin, from the sizes of the boxes; and the length of the file.
-ghost use Rattle.length.specs.Size.{size};
-ghost use Rattle.sizes.specs.Capped.{Capped};
-ghost use Rattle.sizes.specs.Sized.{Sized, Small};
-ghost use Rattle.offsets.specs.Laid.{Laid, Given, Within};
-use locations::PayloadLengths;
+ghost use Rattle.heif.specs.File.{size};
+ghost use Rattle.plan_sizes.specs.Capped.{Capped};
+ghost use Rattle.plan_sizes.specs.Sized.{Sized, Small};
+ghost use Rattle.plan_layout.specs.Laid.{Laid, Given, Within};
 use panel::Shape;
-use sizes::Sizes;
+use plan_items::payloads::PayloadLengths;
+use plan_sizes::Sizes;
 
 // Where each box of a file lies: which items it has, the length of a grid's descriptor, the whole size of each box, the offsets where the
 // colour samples, the alpha samples and the payloads behind them begin, how many bytes these payloads have, and whether the records are of

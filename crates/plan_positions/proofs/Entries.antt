@@ -3,15 +3,16 @@ use mathlib.Core.Path.{_≡_, sym, ap, _∙_}
 use mathlib.Core.List.{List, [], _∷_, _++_, flatMap}
 use Prim.Native.Nat.{ℕ, _+_}
 use Rattle.octets.specs.Numbers.{_‖_}
-use Rattle.octets.proofs.Lists.{flatMap-append}
-use Rattle.panel.specs.Items.{Form, given, gain-id, colour-grid, alpha-tile, alpha-grid}
-use Rattle.panel.specs.Ipma.{Association, _with_, each, essential, associations, association}
+use Rattle.octets.proofs.Lists.{flatMap-append, pictures-joined}
+use Rattle.panel.specs.Form.{Form}
+use Rattle.panel.specs.Parts.{given}
 use Rattle.panel.specs.declared.Shape.{Shape}
-use Rattle.boxes.specs.Runs.{places}
-use Rattle.places.specs.Lists.{image-list, tone-list, colour-grid-list, alpha-grid-list, colour-entries, alpha-entries}
-use Rattle.places.specs.Roles.{its-of}
-use Rattle.places.specs.declared.Places.{Places}
-use Rattle.boxes.proofs.Pictures.{pictures-joined}
+use Rattle.heif.specs.Items.{gain-id, colour-grid, alpha-tile, alpha-grid}
+use Rattle.heif.specs.Ipma.{Association, _with_, each, essential, associations, association}
+use Rattle.plan_runs.specs.Runs.{places}
+use Rattle.plan_runs.specs.Lists.{image-list, tone-list, colour-grid-list, alpha-grid-list, colour-entries, alpha-entries}
+use Rattle.plan_positions.specs.Roles.{its-of}
+use Rattle.plan_positions.specs.declared.Places.{Places}
 
 -- the gain map's entries
 abbrev pub gain-entries : Shape → Places → List Association

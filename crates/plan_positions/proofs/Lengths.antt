@@ -1,15 +1,15 @@
 -- How many associations each item has: as many as its runs have positions.
 use mathlib.Core.Path.{_≡_}
 use lib.ListN.{length, length-append}
-use Rattle.boxes.specs.declared.association.Run.{Run}
-use Rattle.boxes.proofs.Marks.{length-places, length-essential}
-use Rattle.places.specs.Counts.{colour-grid-count, alpha-grid-count, image-count, tone-count}
-use Rattle.places.specs.Lists.{colour-grid-list, alpha-grid-list, image-list, tone-list}
-use Rattle.places.specs.declared.pictures.ColorPlaces.{ColorPlaces}
-use Rattle.places.specs.declared.pictures.AlphaPlaces.{AlphaPlaces}
-use Rattle.places.specs.declared.pictures.OptionPlaces.{OptionPlaces}
-use Rattle.gain_positions.specs.declared.ImagePlaces.{ImagePlaces}
-use Rattle.gain_positions.specs.declared.TonePlaces.{TonePlaces}
+use Rattle.plan_runs.specs.Counts.{colour-grid-count, alpha-grid-count, image-count, tone-count}
+use Rattle.plan_runs.specs.Lists.{colour-grid-list, alpha-grid-list, image-list, tone-list}
+use Rattle.plan_runs.specs.declared.Run.{Run}
+use Rattle.plan_runs.specs.declared.pictures.ColorPlaces.{ColorPlaces}
+use Rattle.plan_runs.specs.declared.pictures.AlphaPlaces.{AlphaPlaces}
+use Rattle.plan_runs.specs.declared.pictures.OptionPlaces.{OptionPlaces}
+use Rattle.plan_runs.specs.declared.gain_map.ImagePlaces.{ImagePlaces}
+use Rattle.plan_runs.specs.declared.gain_map.TonePlaces.{TonePlaces}
+use Rattle.plan_runs.proofs.Runs.{length-places, length-essential}
 
 pub length-colour-grid-list : (c : ColorPlaces) (o : OptionPlaces) → length (colour-grid-list c o) ≡ colour-grid-count c o
 length-colour-grid-list c o = simp (length-append, length-essential, length-places)

@@ -20,10 +20,10 @@ use denote.Struct.Laws as LL
 use Rattle.panel.specs.declared.PropertyPosition.{PropertyPosition}
 use Rattle.panel.proofs.PropertyPosition as P
 use Rattle.panel.proofs.PropertyPosition.Laws as P′
-use Rattle.gain_positions.specs.declared.Positions.{Positions}
-use Rattle.gain_positions.proofs.Positions as T
-use Rattle.gain_positions.proofs.Positions.Laws as T′
-use Rattle.places.specs.Places.{behind-gain}
+use Rattle.plan_runs.specs.declared.Positions.{Positions}
+use Rattle.plan_runs.proofs.Positions as T
+use Rattle.plan_runs.proofs.Positions.Laws as T′
+use Rattle.plan_positions.specs.Gain.{behind-gain}
 
 -- ---- the record
 

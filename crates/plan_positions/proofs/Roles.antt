@@ -9,22 +9,30 @@ use lib.ListN.{length, length-append}
 use Rattle.octets.specs.Boxes.{Box, optional}
 use Rattle.panel.specs.Types.{bits, irot-steps, imir-axis}
 use Rattle.panel.specs.Panel.{Colour, Gain, Panel}
-use Rattle.panel.specs.Items.{has, tone-of, shape, ids-from}
-use Rattle.panel.specs.Ipco
-use Rattle.panel.specs.Ipma.{positions}
+use Rattle.panel.specs.Parts.{has, tone-of}
 use Rattle.panel.specs.declared.Shape.{Shape}
-use Rattle.length.specs.Properties.{second-colr-count, irot-count, imir-count}
-use Rattle.length.proofs.Properties.{length-optional, length-second-colr, length-alternates, length-clli}
-use Rattle.places.specs.Places.{Narrow-image, Narrow-tone, colour-at, alpha-at, options-at, Narrow-colour, Narrow-alpha, Narrow-options}
-use Rattle.gain_positions.specs.Positions.{image-at, tone-at, behind-image}
-use Rattle.gain_positions.specs.declared.ImagePlaces.{ImagePlaces}
-use Rattle.gain_positions.specs.declared.TonePlaces.{TonePlaces}
-use Rattle.places.specs.declared.pictures.ColorPlaces.{ColorPlaces}
-use Rattle.places.specs.declared.pictures.AlphaPlaces.{AlphaPlaces}
-use Rattle.places.specs.declared.pictures.OptionPlaces.{OptionPlaces}
-use Rattle.places.specs.Alternates.{toned-alternates}
-use Rattle.places.specs.Roles.{its-of, Placed}
-use Rattle.places.specs.declared.Places.{Places}
+use Rattle.panel.proofs.Parts.{length-optional}
+use Rattle.heif.specs.Items.{shape, ids-from}
+use Rattle.heif.specs.Ipco
+use Rattle.heif.specs.Colr.{alternates, second-colr, second-colr-count}
+use Rattle.heif.specs.Clli.{clli-payload}
+use Rattle.heif.specs.Imir.{imir-payload, imir-count}
+use Rattle.heif.specs.Irot.{irot-payload, irot-count}
+use Rattle.heif.specs.Pixi.{pixi}
+use Rattle.heif.specs.Ispe.{tone-ispe}
+use Rattle.heif.specs.Ipma.{positions}
+use Rattle.heif.proofs.Colr.{length-second-colr, length-alternates}
+use Rattle.heif.proofs.Clli.{length-clli}
+use Rattle.plan_runs.specs.GainMap.{Narrow-image, Narrow-tone, image-at, tone-at, behind-image}
+use Rattle.plan_runs.specs.Pictures.{colour-at, alpha-at, options-at, Narrow-colour, Narrow-alpha, Narrow-options}
+use Rattle.plan_runs.specs.declared.gain_map.ImagePlaces.{ImagePlaces}
+use Rattle.plan_runs.specs.declared.gain_map.TonePlaces.{TonePlaces}
+use Rattle.plan_runs.specs.declared.pictures.ColorPlaces.{ColorPlaces}
+use Rattle.plan_runs.specs.declared.pictures.AlphaPlaces.{AlphaPlaces}
+use Rattle.plan_runs.specs.declared.pictures.OptionPlaces.{OptionPlaces}
+use Rattle.plan_positions.specs.Gain.{toned-alternates}
+use Rattle.plan_positions.specs.Roles.{its-of, Placed}
+use Rattle.plan_positions.specs.declared.Places.{Places}
 
 -- all places, with c second colr, r irot, m imir, l clli, g boxes of each kind of the gain image, t of the tone map, and a alternate colours
 abbrev pub laid : ℕ → ℕ → ℕ → ℕ → ℕ → ℕ → ℕ → Places
@@ -34,21 +42,21 @@ laid c r m l g t a =
 
 -- how many boxes the definition has of each
 abbrev pub second-colrs : Panel → ℕ
-second-colrs p = length (optional "colr" (Ipco.second-colr (p .colour .cicp) (p .colour .icc)))
+second-colrs p = length (optional "colr" (second-colr (p .colour .cicp) (p .colour .icc)))
 
 abbrev pub irots : Panel → ℕ
-irots p = length (optional "irot" (Ipco.irot-payload (irot-steps (p .metadata .orientation))))
+irots p = length (optional "irot" (irot-payload (irot-steps (p .metadata .orientation))))
 
 abbrev pub imirs : Panel → ℕ
-imirs p = length (optional "imir" (Ipco.imir-payload (imir-axis (p .metadata .orientation))))
+imirs p = length (optional "imir" (imir-payload (imir-axis (p .metadata .orientation))))
 
 abbrev pub cllis : Panel → ℕ
-cllis p = length (optional "clli" (Ipco.clli-payload (p .metadata .light)))
+cllis p = length (optional "clli" (clli-payload (p .metadata .light)))
 
 -- alternate colours belong to a tone map
 abbrev pub alternate-boxes : Option Gain → ℕ
 alternate-boxes none = 0
-alternate-boxes (some g) = cond (has (g .tone)) (length (Ipco.alternates (g .alternate))) 0
+alternate-boxes (some g) = cond (has (g .tone)) (length (alternates (g .alternate))) 0
 
 -- ---- the tone map's roles, from n on
 
@@ -63,7 +71,7 @@ module _ (n : ℕ) (size depth : Box) where
   pixi-toned (some t) a = refl
 
   colr-toned : (t : Option (List ℕ)) (a : Option Colour)
-      → ids-from (n + cond (has t) 1 0 + cond (has t) 1 0) (cond (has t) (length (Ipco.alternates a)) 0) ≡ positions n (Ipco.tone-slots size depth t a) Ipco.colr-tone
+      → ids-from (n + cond (has t) 1 0 + cond (has t) 1 0) (cond (has t) (length (alternates a)) 0) ≡ positions n (Ipco.tone-slots size depth t a) Ipco.colr-tone
   colr-toned none a = refl
   colr-toned (some t) a = refl
 
@@ -109,7 +117,7 @@ in-role p (some g) Ipco.colr-tone = colr-toned _ _ _ (g .tone) (g .alternate)
 -- ---- how many
 
 tone-counted : (size depth : Box) (t : Option (List ℕ)) (a : Option Colour)
-    → length (Ipco.held (Ipco.tone-slots size depth t a)) ≡ cond (has t) 1 0 + cond (has t) 1 0 + cond (has t) (length (Ipco.alternates a)) 0
+    → length (Ipco.held (Ipco.tone-slots size depth t a)) ≡ cond (has t) 1 0 + cond (has t) 1 0 + cond (has t) (length (alternates a)) 0
 tone-counted size depth none a = refl
 tone-counted size depth (some t) a = simp length-append (omega arith)
 
@@ -120,7 +128,7 @@ gain-counted size depth (some g) = omega (arith, tone-counted size depth (g .ton
 
 pub in-all : (p : Panel) → let k = cond {A = ℕ} (has (p .gain)) 1 0 in let t = cond {A = ℕ} (has (tone-of (p .gain))) 1 0 in
     8 + second-colrs p + irots p + imirs p + cllis p + k + k + k + k + k + t + t + alternate-boxes (p .gain) ≡ length (Ipco.properties p)
-in-all p = simp length-append (omega (arith, gain-counted (Ipco.tone-ispe (p .dims) (p .metadata .orientation)) (Ipco.pixi 3 (max (bits (p .depth)) 10)) (p .gain)))
+in-all p = simp length-append (omega (arith, gain-counted (tone-ispe (p .dims) (p .metadata .orientation)) (pixi 3 (max (bits (p .depth)) 10)) (p .gain)))
 
 -- with so many of each as the definition has
 pub placed : (p : Panel) {c r m l g t a : ℕ} → c ≡ second-colrs p → r ≡ irots p → m ≡ imirs p → l ≡ cllis p → g ≡ cond (has (p .gain)) 1 0
@@ -156,8 +164,8 @@ placed-of p s y hs color alpha options image tone count =
     let hy : y ≡ laid-of p s = λ i. record { color = color i; alpha = alpha i; options = options i; image = image i; tone = tone i; count = count i } in
     let b = placed p
     (sym (length-second-colr (p .colour .cicp) (p .colour .icc)))
-    (sym (length-optional "irot" (Ipco.irot-payload (irot-steps (p .metadata .orientation)))))
-    (sym (length-optional "imir" (Ipco.imir-payload (imir-axis (p .metadata .orientation)))))
+    (sym (length-optional "irot" (irot-payload (irot-steps (p .metadata .orientation)))))
+    (sym (length-optional "imir" (imir-payload (imir-axis (p .metadata .orientation)))))
     (sym (length-clli (p .metadata .light)))
     (ap (λ (x : Shape). cond {A = ℕ} (x .gain) 1 0) hs)
     (ap (λ (x : Shape). cond {A = ℕ} (x .tone) 1 0) hs)

@@ -10,21 +10,22 @@ use Rattle.octets.specs.Numbers.{_‖_}
 use Rattle.octets.proofs.Numbers.{length-be}
 use Rattle.octets.proofs.Lists.{flatMap-map, flatMap-one, flatMap-append, length-flatMap}
 use Rattle.panel.specs.Panel.{Panel}
-use Rattle.panel.specs.Items.{Form, given, shape, ids-from, gain-id, colour-grid, alpha-tile, alpha-grid}
-use Rattle.panel.specs.Ipco.{slots}
-use Rattle.panel.specs.Ipma.{Association, _with_, each, essential, positions, associations, association, ipma}
+use Rattle.panel.specs.Form.{Form}
+use Rattle.panel.specs.Parts.{given}
 use Rattle.panel.specs.declared.Shape.{Shape}
-use Rattle.panel.proofs.Ids.{length-ids-from}
-use Rattle.length.specs.Properties.{ipma-size}
-use Rattle.length.proofs.Properties.{length-ipma}
-use Rattle.boxes.specs.Runs.{places}
-use Rattle.boxes.proofs.Marks.{length-essential}
-use Rattle.places.specs.Counts.{ipma-bytes}
-use Rattle.places.specs.Lists.{colour-grid-list, alpha-grid-list, image-list, tone-list, colour-entries, alpha-entries}
-use Rattle.places.specs.Roles.{its-of, Placed}
-use Rattle.places.specs.declared.Places.{Places}
-use Rattle.places.proofs.Lengths.{length-colour-grid-list, length-alpha-grid-list, length-image-list, length-tone-list}
-use Rattle.places.proofs.Entries.{gain-entries, entries-joined}
+use Rattle.heif.specs.Items.{shape, ids-from, gain-id, colour-grid, alpha-tile, alpha-grid}
+use Rattle.heif.specs.Ipco.{slots}
+use Rattle.heif.specs.Ipma.{Association, _with_, each, essential, positions, associations, association, ipma, ipma-size}
+use Rattle.heif.proofs.Items.{length-ids-from}
+use Rattle.heif.proofs.Ipma.{length-ipma}
+use Rattle.plan_runs.specs.Runs.{places}
+use Rattle.plan_runs.specs.Lists.{colour-grid-list, alpha-grid-list, image-list, tone-list, colour-entries, alpha-entries}
+use Rattle.plan_runs.proofs.Runs.{length-essential}
+use Rattle.plan_positions.specs.Counts.{ipma-bytes}
+use Rattle.plan_positions.specs.Roles.{its-of, Placed}
+use Rattle.plan_positions.specs.declared.Places.{Places}
+use Rattle.plan_positions.proofs.Lengths.{length-colour-grid-list, length-alpha-grid-list, length-image-list, length-tone-list}
+use Rattle.plan_positions.proofs.Entries.{gain-entries, entries-joined}
 
 long-one : (f : Form) (id : ℕ) (l : List ℕ) {k : ℕ} → length l ≡ k → length (association f (id with l)) ≡ f .id + 1 + k
 long-one f id l h = simp (length-append, length-be) (omega (arith, h))

@@ -4,11 +4,12 @@ use mathlib.Core.List.{List}
 use Prim.Native.Nat.{ℕ, _≤_}
 use lib.ListN.{length}
 use Rattle.panel.specs.Panel.{Panel}
-use Rattle.panel.specs.Ipco
-use Rattle.panel.specs.Ipma.{positions}
-use Rattle.boxes.specs.Runs.{places}
-use Rattle.places.specs.Places.{Narrow-colour, Narrow-alpha, Narrow-options, Narrow-image, Narrow-tone}
-use Rattle.places.specs.declared.Places.{Places}
+use Rattle.heif.specs.Ipco
+use Rattle.heif.specs.Ipma.{positions}
+use Rattle.plan_runs.specs.Runs.{places}
+use Rattle.plan_runs.specs.Pictures.{Narrow-colour, Narrow-alpha, Narrow-options}
+use Rattle.plan_runs.specs.GainMap.{Narrow-image, Narrow-tone}
+use Rattle.plan_positions.specs.declared.Places.{Places}
 
 unfoldable pub its-of : Places → Ipco.Role → List ℕ
 its-of y Ipco.hvcC-colour = places (y .color .hvcc)

@@ -1,83 +1,23 @@
-// How many properties each item is associated with, and how many bytes ipma takes for them.
+// How many bytes ipma takes.
 ghost use mathlib.Core.Path.{_≡_};
 ghost use Prim.Native.Nat.{_+_, _*_, _≤_};
-ghost use Rattle.places.specs.Counts.{colour-grid-count, alpha-grid-count, image-count, tone-count, colour-entries-size, alpha-entries-size, ipma-bytes};
-ghost use Rattle.places.specs.Roles.{Narrow-places};
-ghost use Rattle.panel.specs.Forms.{form-of};
-ghost use Rattle.boxes.specs.Runs.{Narrow};
-ghost use Rattle.places.specs.Places.{Narrow-colour, Narrow-alpha, Narrow-options, Narrow-image, Narrow-tone};
+ghost use Rattle.panel.specs.Form.{form-of};
+ghost use Rattle.plan_runs.specs.Counts.{colour-entries-size, alpha-entries-size};
+ghost use Rattle.plan_runs.specs.Pictures.{Narrow-colour, Narrow-alpha, Narrow-options};
+ghost use Rattle.plan_positions.specs.Counts.{ipma-bytes};
+ghost use Rattle.plan_positions.specs.Roles.{Narrow-places};
 use crate::Places;
-use crate::pictures::AlphaPlaces;
-use crate::pictures::ColorPlaces;
-use crate::pictures::OptionPlaces;
-use boxes::association::Run;
-use boxes::form::ids_bytes;
-use gain_positions::ImagePlaces;
-use gain_positions::TonePlaces;
-use octets::when;
 use panel::FileForm;
 use panel::Shape;
-
-// How many associations the colour grid has.
-pub fn color_grid_count(c: ColorPlaces, o: OptionPlaces) -> u8
-    requires { ⌜ Narrow-colour c ⌝ }
-    requires { ⌜ Narrow-options o ⌝ }
-    ensures { λ r. ⌜ r ≡ colour-grid-count c o ⌝ }
-    ensures { λ r. ⌜ r ≤ 14 ⌝ }
-{
-    let full = c.ispe_full;
-    let colr = c.colr;
-    let pixi = c.pixi;
-    let second = o.colr;
-    let clli = o.clli;
-    let irot = o.irot;
-    let imir = o.imir;
-    full.count
-        + (colr.count + (pixi.count + (second.count + (clli.count + (irot.count + imir.count)))))
-}
-
-// How many associations the alpha grid has.
-pub fn alpha_grid_count(c: ColorPlaces, a: AlphaPlaces, o: OptionPlaces) -> u8
-    requires { ⌜ Narrow-colour c ⌝ }
-    requires { ⌜ Narrow-alpha a ⌝ }
-    requires { ⌜ Narrow-options o ⌝ }
-    ensures { λ r. ⌜ r ≡ alpha-grid-count c a o ⌝ }
-    ensures { λ r. ⌜ r ≤ 14 ⌝ }
-{
-    let full = c.ispe_full;
-    let pixi = a.pixi;
-    let auxc = a.auxc;
-    let irot = o.irot;
-    let imir = o.imir;
-    full.count + (pixi.count + (auxc.count + (irot.count + imir.count)))
-}
-
-// How many associations the gain image has.
-pub fn image_count(p: ImagePlaces, irot: Run, imir: Run) -> u8
-    requires { ⌜ Narrow-image p ⌝ }
-    requires { ⌜ Narrow irot ⌝ }
-    requires { ⌜ Narrow imir ⌝ }
-    ensures { λ r. ⌜ r ≡ image-count p irot imir ⌝ }
-{
-    let hvcc = p.hvcc;
-    let ispe = p.ispe;
-    let pixi = p.pixi;
-    let auxc = p.auxc;
-    let colr = p.colr;
-    hvcc.count
-        + (ispe.count + (pixi.count + (auxc.count + (colr.count + (irot.count + imir.count)))))
-}
-
-// How many associations the tone map has.
-pub fn tone_count(p: TonePlaces) -> u8
-    requires { ⌜ Narrow-tone p ⌝ }
-    ensures { λ r. ⌜ r ≡ tone-count p ⌝ }
-{
-    let ispe = p.ispe;
-    let pixi = p.pixi;
-    let colr = p.colr;
-    ispe.count + (pixi.count + colr.count)
-}
+use panel::part::when;
+use plan_items::form::ids_bytes;
+use plan_runs::counts::alpha_grid_count;
+use plan_runs::counts::color_grid_count;
+use plan_runs::counts::image_count;
+use plan_runs::counts::tone_count;
+use plan_runs::pictures::AlphaPlaces;
+use plan_runs::pictures::ColorPlaces;
+use plan_runs::pictures::OptionPlaces;
 
 // How many bytes the entries of a picture take: those of n tiles with so many properties each, and that of its grid.
 fn entries_size(form: FileForm, n: u32, tile: u8, grid: u8) -> u32

@@ -4,16 +4,18 @@ ghost use mathlib.Core.Bool.{cond};
 ghost use mathlib.Core.List.{List};
 ghost use Prim.Native.Nat.{ℕ, _+_, _≤_};
 ghost use Rattle.panel.specs.Of.{part, cicp-of, light-of, alternate-of};
-ghost use Rattle.panel.specs.Items.{has};
-ghost use Rattle.length.specs.Properties.{second-colr-count, alternates-count, irot-count, imir-count};
-use checks::shape::has_cicp;
-use checks::shape::is_present;
-use octets::when;
+ghost use Rattle.panel.specs.Parts.{has};
+ghost use Rattle.heif.specs.Colr.{second-colr-count, alternates-count};
+ghost use Rattle.heif.specs.Irot.{irot-count};
+ghost use Rattle.heif.specs.Imir.{imir-count};
 use panel::color::ColorMetadata;
 use panel::color::MaybeCicp;
 use panel::color::MaybeColorMetadata;
 use panel::metadata::MaybeLightLevel;
 use panel::metadata::Orientation;
+use panel::part::when;
+use plan_items::shape::has_cicp;
+use plan_items::shape::is_present;
 
 // How many irot.
 pub(crate) fn irot_count(o: Orientation) -> u32

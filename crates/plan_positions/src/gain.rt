@@ -1,12 +1,12 @@
 // The positions of the gain map's properties: the record that runs through all properties is lent, and raised behind them.
 ghost use mathlib.Core.Path.{_≡_};
 ghost use Prim.Native.Nat.{_≤_};
-ghost use Rattle.places.specs.Places.{gain-at, behind-gain};
-use gain_positions::ImagePlaces;
-use gain_positions::Positions;
-use gain_positions::TonePlaces;
-use gain_positions::image_places;
-use gain_positions::tone_places;
+ghost use Rattle.plan_positions.specs.Gain.{gain-at, behind-gain};
+use plan_runs::Positions;
+use plan_runs::gain_map::ImagePlaces;
+use plan_runs::gain_map::TonePlaces;
+use plan_runs::gain_map::image_places;
+use plan_runs::gain_map::tone_places;
 
 // The positions of the gain map's properties: the gain image's, and the tone map's.
 pub struct GainPlaces {

@@ -1,12 +1,8 @@
 -- The positions of the gain map's properties, and the next free one behind them.
 use Prim.Native.Nat.{ℕ, _+_}
-use Rattle.boxes.specs.declared.association.Run.{Run}
-use Rattle.gain_positions.specs.declared.ImagePlaces.{ImagePlaces}
-use Rattle.gain_positions.specs.declared.TonePlaces.{TonePlaces}
-
--- so many positions from `first` on
-abbrev pub run-at : ℕ → ℕ → Run
-run-at first count = record { first = record { 0 = first }; count = count }
+use Rattle.plan_runs.specs.Runs.{Narrow, run-at}
+use Rattle.plan_runs.specs.declared.gain_map.ImagePlaces.{ImagePlaces}
+use Rattle.plan_runs.specs.declared.gain_map.TonePlaces.{TonePlaces}
 
 -- ---- hvcC, ispe, pixi, auxC and colr of the gain image, k boxes of each from n on
 
@@ -24,3 +20,15 @@ tone-at n k alternates = record { ispe = run-at n k; pixi = run-at (n + k) k; co
 
 abbrev pub behind-tone : ℕ → ℕ → ℕ → ℕ
 behind-tone n k alternates = n + k + k + alternates
+
+pub record Narrow-image (p : ImagePlaces) : Type 0 where
+  pub hvcc : Narrow (p .hvcc)
+  pub ispe : Narrow (p .ispe)
+  pub pixi : Narrow (p .pixi)
+  pub auxc : Narrow (p .auxc)
+  pub colr : Narrow (p .colr)
+
+pub record Narrow-tone (p : TonePlaces) : Type 0 where
+  pub ispe : Narrow (p .ispe)
+  pub pixi : Narrow (p .pixi)
+  pub colr : Narrow (p .colr)

@@ -2,16 +2,16 @@
 use mathlib.Core.List.{List, [], _∷_}
 use Prim.Native.Nat.{ℕ}
 use Rattle.octets.specs.Numbers.{_‖_}
-use Rattle.panel.specs.Items.{colour-grid, alpha-tile, alpha-grid}
-use Rattle.panel.specs.Ipma.{Association, _with_, each, essential}
 use Rattle.panel.specs.declared.Shape.{Shape}
-use Rattle.boxes.specs.Runs.{places}
-use Rattle.boxes.specs.declared.association.Run.{Run}
-use Rattle.places.specs.declared.pictures.ColorPlaces.{ColorPlaces}
-use Rattle.places.specs.declared.pictures.AlphaPlaces.{AlphaPlaces}
-use Rattle.places.specs.declared.pictures.OptionPlaces.{OptionPlaces}
-use Rattle.gain_positions.specs.declared.ImagePlaces.{ImagePlaces}
-use Rattle.gain_positions.specs.declared.TonePlaces.{TonePlaces}
+use Rattle.heif.specs.Items.{colour-grid, alpha-tile, alpha-grid}
+use Rattle.heif.specs.Ipma.{Association, _with_, each, essential}
+use Rattle.plan_runs.specs.Runs.{places}
+use Rattle.plan_runs.specs.declared.Run.{Run}
+use Rattle.plan_runs.specs.declared.pictures.ColorPlaces.{ColorPlaces}
+use Rattle.plan_runs.specs.declared.pictures.AlphaPlaces.{AlphaPlaces}
+use Rattle.plan_runs.specs.declared.pictures.OptionPlaces.{OptionPlaces}
+use Rattle.plan_runs.specs.declared.gain_map.ImagePlaces.{ImagePlaces}
+use Rattle.plan_runs.specs.declared.gain_map.TonePlaces.{TonePlaces}
 
 -- ---- without the heads of the entries
 

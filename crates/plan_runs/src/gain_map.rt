@@ -1,15 +1,10 @@
-// The next free property position, a record that runs through all properties; and the positions of the gain map's, by value: each function
-// takes the record and hands it back raised behind what it placed.
+// The positions of the gain map's properties: each function takes the running record and hands it back raised behind what it placed.
 ghost use mathlib.Core.Path.{_≡_};
 ghost use Prim.Native.Nat.{_≤_};
-ghost use Rattle.gain_positions.specs.Positions.{behind-image, behind-tone, image-at, tone-at};
-use boxes::association::Run;
+ghost use Rattle.plan_runs.specs.GainMap.{behind-image, behind-tone, image-at, tone-at};
+use crate::Positions;
+use crate::Run;
 use panel::PropertyPosition;
-
-// The next free position.
-pub struct Positions {
-    pub next: PropertyPosition,
-}
 
 // The positions of the gain image's properties.
 pub struct ImagePlaces {

@@ -1,9 +1,9 @@
 // The positions of the properties of the colour picture and the alpha picture, and of those that may be absent.
 ghost use mathlib.Core.Path.{_≡_};
 ghost use Prim.Native.Nat.{_+_, _≤_};
-ghost use Rattle.places.specs.Places.{colour-at, alpha-at, options-at};
-use boxes::association::Run;
-use gain_positions::Positions;
+ghost use Rattle.plan_runs.specs.Pictures.{colour-at, alpha-at, options-at};
+use crate::Positions;
+use crate::Run;
 use panel::PropertyPosition;
 
 // The colour picture's properties.
@@ -46,7 +46,7 @@ pub struct PlacedOptions {
 }
 
 // The positions of the colour picture's properties, one of each.
-pub(crate) fn color_places(positions: Positions) -> PlacedColor
+pub fn color_places(positions: Positions) -> PlacedColor
     requires { ⌜ positions .next .0 + 5 ≤ 127 ⌝ }
     ensures { λ r. ⌜ (r .places ≡ colour-at (positions .next .0)) × (r .positions .next .0 ≡ positions .next .0 + 5) ⌝ }
 {
@@ -69,7 +69,7 @@ pub(crate) fn color_places(positions: Positions) -> PlacedColor
 }
 
 // The positions of the alpha picture's properties, one of each.
-pub(crate) fn alpha_places(positions: Positions) -> PlacedAlpha
+pub fn alpha_places(positions: Positions) -> PlacedAlpha
     requires { ⌜ positions .next .0 + 3 ≤ 127 ⌝ }
     ensures { λ r. ⌜ (r .places ≡ alpha-at (positions .next .0)) × (r .positions .next .0 ≡ positions .next .0 + 3) ⌝ }
 {
@@ -88,13 +88,7 @@ pub(crate) fn alpha_places(positions: Positions) -> PlacedAlpha
 }
 
 // The positions of the properties that may be absent, with so many of each.
-pub(crate) fn option_places(
-    positions: Positions,
-    colr: u8,
-    irot: u8,
-    imir: u8,
-    clli: u8,
-) -> PlacedOptions
+pub fn option_places(positions: Positions, colr: u8, irot: u8, imir: u8, clli: u8) -> PlacedOptions
     requires { ⌜ positions .next .0 + 4 ≤ 127 ⌝ }
     requires { ⌜ colr ≤ 1 ⌝ }
     requires { ⌜ irot ≤ 1 ⌝ }

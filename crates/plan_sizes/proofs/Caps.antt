@@ -4,11 +4,20 @@ use mathlib.Core.Option.{Option, none, some}
 use Prim.Native.Nat.{ℕ, _+_}
 use native.Mathlib.Omega.{arith}
 use Rattle.panel.specs.Panel.{Gain, Panel}
-use Rattle.panel.specs.Items.{Form, shape}
-use Rattle.length.specs.Properties.{ipco-size, ipma-size}
-use Rattle.length.specs.Size.{iloc-size, iinf-size, iref-size, iprp-size, grpl-size, idat-size, meta-size, gain-data-size}
-use Rattle.locations.specs.Payloads.{payload-lengths}
-use Rattle.sizes.specs.Capped.{Capped}
+use Rattle.panel.specs.Form.{Form}
+use Rattle.heif.specs.Items.{shape}
+use Rattle.heif.specs.Ipco.{ipco-size}
+use Rattle.heif.specs.Ipma.{ipma-size}
+use Rattle.heif.specs.Iloc.{iloc-size}
+use Rattle.heif.specs.Iinf.{iinf-size}
+use Rattle.heif.specs.Iref.{iref-size}
+use Rattle.heif.specs.Iprp.{iprp-size}
+use Rattle.heif.specs.Grpl.{grpl-size}
+use Rattle.heif.specs.Idat.{idat-size}
+use Rattle.heif.specs.Meta.{meta-size}
+use Rattle.heif.specs.Mdat.{gain-data-size}
+use Rattle.plan_items.specs.Payloads.{payload-lengths}
+use Rattle.plan_sizes.specs.Capped.{Capped}
 
 infixl 20 _⊕_
 pub _⊕_ : {t a b c d : ℕ} → Capped t a b → Capped t c d → Capped t (a + c) (b + d)

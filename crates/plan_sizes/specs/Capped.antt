@@ -3,10 +3,10 @@ use mathlib.Core.Path.{_≡_}
 use mathlib.Core.List.{List}
 use Prim.Native.Nat.{ℕ, _≤_, _<_}
 use lib.ListN.{length}
-use Rattle.panel.specs.Of.{Lent}
-use Rattle.locations.specs.declared.PayloadLengths.{PayloadLengths}
-use Rattle.sizes.specs.declared.lengths.GainLengths.{GainLengths}
-use Rattle.sizes.specs.declared.lengths.Lengths.{Lengths}
+use Rattle.panel.specs.Lent.{Lent}
+use Rattle.plan_items.specs.declared.payloads.PayloadLengths.{PayloadLengths}
+use Rattle.plan_sizes.specs.declared.lengths.GainLengths.{GainLengths}
+use Rattle.plan_sizes.specs.declared.lengths.Lengths.{Lengths}
 
 -- a stands for b, and is b where it is below t
 pub record Capped (t a b : ℕ) : Type 0 where

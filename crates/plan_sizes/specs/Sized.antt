@@ -2,12 +2,21 @@
 use mathlib.Core.Path.{_≡_}
 use Prim.Native.Nat.{_+_, _≤_}
 use Rattle.panel.specs.Panel.{Panel}
-use Rattle.panel.specs.Items.{Form, shape}
-use Rattle.length.specs.Properties.{ipco-size, ipma-size}
-use Rattle.length.specs.Size.{head-size, iloc-size, iinf-size, iref-size, iprp-size, idat-size, meta-size, exif-size, mdat-size}
-use Rattle.sizes.specs.Capped.{Capped, Capped-payloads}
-use Rattle.locations.specs.Payloads.{payload-lengths}
-use Rattle.sizes.specs.declared.Sizes.{Sizes}
+use Rattle.panel.specs.Form.{Form}
+use Rattle.heif.specs.Items.{shape}
+use Rattle.heif.specs.Ipco.{ipco-size}
+use Rattle.heif.specs.Ipma.{ipma-size}
+use Rattle.heif.specs.Ftyp.{head-size}
+use Rattle.heif.specs.Iloc.{iloc-size}
+use Rattle.heif.specs.Iinf.{iinf-size}
+use Rattle.heif.specs.Iref.{iref-size}
+use Rattle.heif.specs.Iprp.{iprp-size}
+use Rattle.heif.specs.Idat.{idat-size}
+use Rattle.heif.specs.Meta.{meta-size}
+use Rattle.heif.specs.Mdat.{exif-size, mdat-size}
+use Rattle.plan_items.specs.Payloads.{payload-lengths}
+use Rattle.plan_sizes.specs.Capped.{Capped, Capped-payloads}
+use Rattle.plan_sizes.specs.declared.Sizes.{Sizes}
 
 pub record Sized (f : Form) (p : Panel) (y : Sizes) : Type 0 where
   pub ftyp : y .ftyp ≡ 8 + head-size p

@@ -1,7 +1,7 @@
 // The lengths of the byte parts lent, each in 32 bits. A part that is too long for a file counts as the longest, and then the file counts as too long.
 ghost use mathlib.Core.Path.{_≡_};
-ghost use Rattle.sizes.specs.Capped.{Capped, Gain-measured, Measured};
-ghost use Rattle.panel.specs.Of.{Lent};
+ghost use Rattle.panel.specs.Lent.{Lent};
+ghost use Rattle.plan_sizes.specs.Capped.{Capped, Gain-measured, Measured};
 
 // Of a gain map.
 pub struct GainLengths {

@@ -6,33 +6,38 @@ pub mod properties;
 ghost use mathlib.Core.Path.{_≡_};
 ghost use Prim.Native.Nat.{_+_, _≤_};
 ghost use Rattle.panel.specs.Panel as Pure;
-ghost use Rattle.panel.specs.Of.{Lent, panel-of, gain-of};
-ghost use Rattle.panel.specs.Items.{shape};
-ghost use Rattle.panel.specs.Forms.{form-of};
-ghost use Rattle.panel.specs.File.{rext, gain-rext};
-ghost use Rattle.length.specs.Size.{ftyp-size, iloc-size, iinf-size, iref-size, descriptor-size, exif-size, mdat-size};
-ghost use Rattle.locations.specs.Payloads.{payload-lengths};
-ghost use Rattle.places.specs.Roles.{Placed, Narrow-places};
-ghost use Rattle.sizes.specs.Capped.{Capped, Length-of, Capped-payloads, Gain-measured, Measured};
-ghost use Rattle.sizes.specs.Sized.{Sized, Small};
+ghost use Rattle.panel.specs.Lent.{Lent};
+ghost use Rattle.panel.specs.Of.{panel-of, gain-of};
+ghost use Rattle.panel.specs.Form.{form-of};
+ghost use Rattle.heif.specs.Items.{shape};
+ghost use Rattle.heif.specs.Hvcc.{rext};
+ghost use Rattle.heif.specs.Ftyp.{gain-rext, ftyp-size};
+ghost use Rattle.heif.specs.Iloc.{iloc-size};
+ghost use Rattle.heif.specs.Iinf.{iinf-size};
+ghost use Rattle.heif.specs.Iref.{iref-size};
+ghost use Rattle.heif.specs.Idat.{descriptor-size};
+ghost use Rattle.heif.specs.Mdat.{exif-size, mdat-size};
+ghost use Rattle.plan_items.specs.Payloads.{payload-lengths};
+ghost use Rattle.plan_positions.specs.Roles.{Placed, Narrow-places};
+ghost use Rattle.plan_sizes.specs.Capped.{Capped, Length-of, Capped-payloads, Gain-measured, Measured};
+ghost use Rattle.plan_sizes.specs.Sized.{Sized, Small};
 use crate::lengths::GainLengths;
 use crate::lengths::Lengths;
 use crate::properties::ipco_size;
 use crate::properties::part_size;
-use boxes::form::count_bytes;
-use boxes::form::ids_bytes;
-use boxes::ftyp::adds_heix;
-use boxes::ftyp::hvcc_uses_rext;
-use checks::shape::is_present;
-use checks::shape::last_id;
-use locations::PayloadLengths;
-use octets::when;
 use panel::FileForm;
 use panel::Panel;
 use panel::Shape;
 use panel::gain_map::MaybeGainMap;
-use places::Places;
-use places::associations::ipma_bytes;
+use panel::part::when;
+use plan_items::brands::adds_heix;
+use plan_items::form::count_bytes;
+use plan_items::form::ids_bytes;
+use plan_items::ids::last_id;
+use plan_items::payloads::PayloadLengths;
+use plan_items::shape::is_present;
+use plan_positions::Places;
+use plan_positions::associations::ipma_bytes;
 
 // The whole size of each box, and of the payloads behind the samples. Where a byte part is too long for a file, ipco, iprp, meta, mdat, exif
 // and gain only stand for the true sizes (`Capped`).
@@ -49,16 +54,6 @@ pub struct Sizes {
     pub mdat: u64,
     pub exif: u64,
     pub gain: PayloadLengths,
-}
-
-// Whether there is a gain map whose record is of the range extensions' profile.
-pub fn gain_uses_rext(gain: MaybeGainMap, hvcc: &[u8]) -> bool
-    ensures { λ r. ⌜ ((l : Lent) → l .gain-hvcc ≡ now (hvcc .entry) → r ≡ gain-rext (gain-of gain l)) ⌝ }
-{
-    match gain {
-        MaybeGainMap::Some(_) => hvcc_uses_rext(hvcc),
-        MaybeGainMap::None => false,
-    }
 }
 
 // ftyp, the whole box. color and gain: the record is of the range extensions' profile.

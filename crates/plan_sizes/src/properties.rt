@@ -4,24 +4,25 @@ ghost use mathlib.Core.Bool.{cond};
 ghost use mathlib.Core.Option.{none};
 ghost use mathlib.Core.List.{List};
 ghost use Prim.Native.Nat.{ℕ, _+_, _*_, _≤_};
-ghost use Rattle.panel.specs.Of.{Lent, panel-of, part, cicp-of, alternate-of, gain-of};
-ghost use Rattle.panel.specs.Items.{has};
-ghost use Rattle.length.specs.Parts.{long};
-ghost use Rattle.length.specs.Properties.{first-colr-size, second-colr-count, second-colr-size, alternates-count, stated-size, alternates-size, gain-property-count, tone-properties-size, gain-properties-size, ipco-size};
-ghost use Rattle.places.specs.Places.{Narrow-options};
-ghost use Rattle.places.specs.Roles.{Placed};
-ghost use Rattle.sizes.specs.Capped.{Capped, Length-of, Measured};
+ghost use Rattle.panel.specs.Lent.{Lent};
+ghost use Rattle.panel.specs.Of.{panel-of, part, cicp-of, alternate-of, gain-of};
+ghost use Rattle.panel.specs.Parts.{has, long};
+ghost use Rattle.heif.specs.Colr.{first-colr-size, second-colr-count, second-colr-size, alternates-count, stated-size, alternates-size};
+ghost use Rattle.heif.specs.Ipco.{gain-property-count, tone-properties-size, gain-properties-size, ipco-size};
+ghost use Rattle.plan_runs.specs.Pictures.{Narrow-options};
+ghost use Rattle.plan_positions.specs.Roles.{Placed};
+ghost use Rattle.plan_sizes.specs.Capped.{Capped, Length-of, Measured};
 use crate::lengths::Lengths;
-use checks::shape::has_cicp;
-use octets::when;
 use panel::Panel;
 use panel::color::ColorMetadata;
 use panel::color::MaybeCicp;
 use panel::color::MaybeColorMetadata;
-use panel::color::Part;
 use panel::gain_map::MaybeGainMap;
-use places::Places;
-use places::pictures::OptionPlaces;
+use panel::part::Part;
+use panel::part::when;
+use plan_items::shape::has_cicp;
+use plan_positions::Places;
+use plan_runs::pictures::OptionPlaces;
 
 // ---- what the properties hold, beside the eight bytes that head each of them: a colr 11 bytes by code points, 4 and the profile by ICC
 

@@ -10,11 +10,12 @@ use borrow.Author.Tests.{ltb-false, leb-true, not-false}
 use Rattle.octets.specs.Numbers.{total}
 use Rattle.octets.proofs.Lists.{total-step, total-take}
 use Rattle.octets.proofs.Tests.{and-both, or-false, or-second}
-use Rattle.panel.specs.Refusal.{differ}
-use Rattle.checks.proofs.Tests.{same, Decides, pass, stop, passed}
-use Rattle.tiles.specs.Lookup.{names-colour, names-alpha, bad-lists, too-many, Lent-tiles, tile-checks, tile-refusal, accepted-or, colour-index, alpha-index, sample, tile-bytes, span-of, no-span, tile-span, Address, span-address}
-use Rattle.tiles.specs.declared.TileSpan.{TileSpan}
-use Rattle.tiles.proofs.Samples.{sample-at}
+use Rattle.heif.specs.Refusal.{differ}
+use Rattle.plan_checks.proofs.Tests.{same, Decides, pass, stop, passed}
+use Rattle.plan_tile.specs.Lookup.{names-colour, names-alpha, bad-lists, too-many, Lent-tiles, tile-checks, tile-refusal, accepted-or}
+use Rattle.plan_tile.specs.Lookup.{colour-index, alpha-index, sample, tile-bytes, span-of, no-span, tile-span, Address, span-address}
+use Rattle.plan_tile.specs.declared.TileSpan.{TileSpan}
+use Rattle.plan_tile.proofs.Samples.{sample-at}
 
 pub few : (n : ℕ) → too-many n ≡ false → n ≤ 32766
 few n e = omega (arith, ltb-false 65535 (2 * n + 2) e)

@@ -8,8 +8,8 @@ use lib.ListN.{length, length-append, take, drop, getD}
 use lib.Seq.{drop-drop, drop-at, take-at}
 use Rattle.octets.specs.Numbers.{total}
 use Rattle.octets.proofs.Lists.{flatten-append}
-use Rattle.panel.specs.Items.{ordinary}
-use Rattle.panel.specs.Iloc.{Location, extents, located, entry}
+use Rattle.panel.specs.Form.{ordinary}
+use Rattle.heif.specs.Iloc.{Location, extents, located, entry}
 
 -- ---- behind a front of so many bytes
 

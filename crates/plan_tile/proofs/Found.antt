@@ -2,8 +2,8 @@
 use mathlib.Core.Path.{_≡_, refl, sym, ap, _∙_, subst}
 use mathlib.Core.Bool.{Bool, true, false}
 use mathlib.Core.List.{List, [], _∷_, _++_, map, flatten, flatMap, append-assoc}
-use Prim.Native.String.{String}
 use Prim.Native.Nat.{ℕ, _+_, _*_, _-_, _^_, _≤_, _<_}
+use Prim.Native.String.{String}
 use native.Mathlib.Omega.{arith}
 use lib.ListN.{length, length-append, take, drop, getD}
 use lib.Seq.{drop-drop}
@@ -13,20 +13,29 @@ use Rattle.octets.proofs.Lists.{flatten-append, flatMap-append, length-flatMap}
 use Rattle.octets.proofs.Numbers.{value-be}
 use Rattle.octets.proofs.Boxes.{boxes-cons, boxes-one, boxes-append}
 use Rattle.panel.specs.Panel.{Panel}
-use Rattle.panel.specs.Items.{ordinary, shape, colour-grid, alpha-tile, alpha-grid, exif-id, other-payloads, payloads}
-use Rattle.panel.specs.Iloc.{descriptor, Location, extents, located, locations, entry, iloc}
-use Rattle.panel.specs.Iinf.{iinf}
-use Rattle.panel.specs.Iref.{iref}
-use Rattle.panel.specs.File.{hdlr, pitm, iprp, grpl, idat, meta-boxes, meta, head, mdat, data-at, file}
-use Rattle.panel.specs.Refusal.{refusal}
-use Rattle.panel.proofs.Accepted.{Accepted, accepted}
-use Rattle.panel.proofs.Payloads.{cut, length-samples, length-extents, length-located, locations-runs, length-entry}
-use Rattle.length.specs.Parts.{Even}
-use Rattle.length.proofs.File.{even-accepted, length-file, data-at-size, length-mdat, data-begins}
-use Rattle.tiles.specs.Lookup.{names-colour, lent-tiles, tile-refusal, tile-bytes}
-use Rattle.tiles.specs.Found.{lent-tiles-of, read, entry-at, Locates}
-use Rattle.tiles.proofs.Answers.{colour-within, alpha-within, colour-part, alpha-part}
-use Rattle.tiles.proofs.Entries.{behind-front, Begins, begins, location-of, entry-of, within, payload-of}
+use Rattle.panel.specs.Form.{ordinary}
+use Rattle.heif.specs.Items.{shape, colour-grid, alpha-tile, alpha-grid, exif-id, Even}
+use Rattle.heif.specs.Mdat.{other-payloads, payloads, mdat}
+use Rattle.heif.specs.Idat.{descriptor, idat}
+use Rattle.heif.specs.Iloc.{Location, extents, located, locations, entry, iloc}
+use Rattle.heif.specs.Iinf.{iinf}
+use Rattle.heif.specs.Iref.{iref}
+use Rattle.heif.specs.Hdlr.{hdlr}
+use Rattle.heif.specs.Pitm.{pitm}
+use Rattle.heif.specs.Iprp.{iprp}
+use Rattle.heif.specs.Grpl.{grpl}
+use Rattle.heif.specs.Meta.{meta-boxes, meta}
+use Rattle.heif.specs.Ftyp.{head}
+use Rattle.heif.specs.File.{data-at, file}
+use Rattle.heif.specs.Refusal.{refusal}
+use Rattle.heif.proofs.Refusal.{Accepted, accepted, even-accepted}
+use Rattle.heif.proofs.Mdat.{cut, length-samples, length-mdat}
+use Rattle.heif.proofs.Iloc.{length-extents, length-located, locations-runs, length-entry}
+use Rattle.heif.proofs.File.{length-file, data-at-size, data-begins}
+use Rattle.plan_tile.specs.Lookup.{names-colour, lent-tiles, tile-refusal, tile-bytes}
+use Rattle.plan_tile.specs.Found.{lent-tiles-of, read, entry-at, Locates}
+use Rattle.plan_tile.proofs.Answers.{colour-within, alpha-within, colour-part, alpha-part}
+use Rattle.plan_tile.proofs.Entries.{behind-front, Begins, begins, location-of, entry-of, within, payload-of}
 
 -- ---- boxes with heads of a fixed length
 

@@ -6,7 +6,7 @@ use native.Mathlib.Omega.{arith}
 use lib.ListN.{length, take, drop, getD}
 use lib.Seq.{drop-drop}
 use Rattle.octets.specs.Numbers.{total}
-use Rattle.tiles.specs.Lookup.{sample}
+use Rattle.plan_tile.specs.Lookup.{sample}
 
 pub sample-at : (l b : List ℕ) (k : ℕ) → k < length l → sample l b k ≡ take (getD l k 0) (drop (total (take k l)) b)
 sample-at [] b k h = absurd (omega arith)

@@ -6,9 +6,13 @@ use lib.ListN.{length, take, drop}
 use Rattle.octets.specs.Numbers.{value}
 use Rattle.octets.specs.Boxes.{boxes}
 use Rattle.panel.specs.Panel.{Panel}
-use Rattle.panel.specs.Items.{ordinary, shape}
-use Rattle.panel.specs.File.{head, hdlr, pitm, file}
-use Rattle.tiles.specs.Lookup.{Lent-tiles, lent-tiles}
+use Rattle.panel.specs.Form.{ordinary}
+use Rattle.heif.specs.Items.{shape}
+use Rattle.heif.specs.Ftyp.{head}
+use Rattle.heif.specs.Hdlr.{hdlr}
+use Rattle.heif.specs.Pitm.{pitm}
+use Rattle.heif.specs.File.{file}
+use Rattle.plan_tile.specs.Lookup.{Lent-tiles, lent-tiles}
 
 -- what a lookup in a panel's tiles is lent
 abbrev pub lent-tiles-of : Panel → Lent-tiles

@@ -5,9 +5,9 @@ use Prim.Native.Nat.{ℕ, zero, suc, _+_, _*_, _-_}
 use lib.Dec.{leb, ltb, eqb}
 use lib.ListN.{length, take, getD}
 use Rattle.octets.specs.Numbers.{total}
-use Rattle.panel.specs.Items.{samples}
-use Rattle.panel.specs.Refusal.{Check, check, first, differ}
-use Rattle.tiles.specs.declared.TileSpan.{TileSpan}
+use Rattle.heif.specs.Mdat.{samples}
+use Rattle.heif.specs.Refusal.{Check, check, first, differ}
+use Rattle.plan_tile.specs.declared.TileSpan.{TileSpan}
 
 -- of n tiles a picture, the colour tiles have the ids 1 to n, and the alpha tiles n + 2 to 2n + 1
 abbrev pub names-colour : ℕ → ℕ → Bool

@@ -3,9 +3,10 @@ ghost use mathlib.Core.Path.{_≡_};
 ghost use Prim.Native.Nat.{_+_, _*_, _≤_, _<_};
 ghost use lib.ListN.{length, take};
 ghost use Rattle.octets.specs.Numbers.{total};
-ghost use Rattle.tiles.specs.Lookup.{names-colour, names-alpha, bad-lists, too-many, lent-tiles, tile-refusal, tile-bytes, span-of, tile-span, span-address};
-use checks::bad_sums;
+ghost use Rattle.plan_tile.specs.Lookup.{names-colour, names-alpha, bad-lists, too-many, lent-tiles, tile-refusal, tile-bytes, span-of, tile-span};
+ghost use Rattle.plan_tile.specs.Lookup.{span-address};
 use panel::ItemId;
+use plan_checks::bad_sums;
 
 // Whether an id names one of n colour tiles.
 fn names_color(n: usize, id: ItemId) -> bool

@@ -1,6 +1,7 @@
 // Writes files to standard output, each with the bytes of the output behind it that it leaves as they are: panel P with each value of each
 // enum, and a panel with every part. Then it prints what the tile lookup gives for ids. The file `stdout` beside src/ has what the Rust
 // writes for values of the same names, and which part of its files each tile is.
+
 mod lookups;
 mod names;
 
@@ -14,7 +15,6 @@ use panel::color::ColorMetadata;
 use panel::color::MatrixCoefficients;
 use panel::color::MaybeCicp;
 use panel::color::MaybeColorMetadata;
-use panel::color::Part;
 use panel::color::Primaries;
 use panel::color::TransferFunction;
 use panel::fmt::BitDepth;
@@ -24,7 +24,8 @@ use panel::metadata::ContentLightLevel;
 use panel::metadata::MaybeLightLevel;
 use panel::metadata::Metadata;
 use panel::metadata::Orientation;
-use wrap::wrap_hevc_grid_with_alpha;
+use panel::part::Part;
+use write_file::wrap_hevc_grid_with_alpha;
 
 // The colour of the picture and of its alternate, by code points and by a profile.
 fn wide() -> ColorMetadata {

@@ -6,7 +6,6 @@ use panel::color::Cicp;
 use panel::color::ColorMetadata;
 use panel::color::MatrixCoefficients;
 use panel::color::MaybeCicp;
-use panel::color::Part;
 use panel::color::Primaries;
 use panel::color::TransferFunction;
 use panel::fmt::BitDepth;
@@ -14,7 +13,8 @@ use panel::gain_map::MaybeGainMap;
 use panel::metadata::MaybeLightLevel;
 use panel::metadata::Metadata;
 use panel::metadata::Orientation;
-use wrap::wrap_hevc_grid_with_alpha;
+use panel::part::Part;
+use write_file::wrap_hevc_grid_with_alpha;
 
 // Writes panel P (one tile of 64 × 64, no option) with this depth, colour and orientation.
 fn write(bit_depth: BitDepth, cicp: MaybeCicp, orientation: Orientation) {

@@ -1,7 +1,7 @@
 // Reads one panel sheet from standard input and prints its file, or `refused N`. A sheet of more than 12,288 bytes is refused, so one byte
 // more than that is read and no further.
 use libc::STDIN_FILENO;
-use sheet_print::print_sheet_file;
+use program_print::print_sheet_file;
 
 fn main() {
     let mut input = [0u8; 12289];

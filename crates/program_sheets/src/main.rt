@@ -1,6 +1,6 @@
 // Prints what each of the sheets in data/ is answered, in the order of the arguments, with a line feed behind each answer.
 use libc::STDOUT_FILENO;
-use sheet_print::print_sheet_file;
+use program_print::print_sheet_file;
 
 // The sheet that an argument names, or false where there is none.
 fn run(i: usize) -> bool {

@@ -4,8 +4,9 @@ use mathlib.Core.List.{List}
 use Prim.Native.Nat.{ℕ}
 use lib.ListN.{length}
 use Rattle.panel.specs.Panel.{Panel}
-use Rattle.panel.specs.Items.{ordinary}
-use Rattle.panel.specs.Answer.{Outcome, refused, write-answer, after}
+use Rattle.panel.specs.Form.{ordinary}
+use Rattle.panel.specs.Outcome.{Outcome, refused}
+use Rattle.heif.specs.Answer.{write-answer, after}
 use Rattle.sheet_fields.specs.Read.{Read, got, stop}
 use Rattle.sheet.specs.Sheet.{sheet}
 

@@ -4,7 +4,8 @@ use mathlib.Core.List.{List}
 use Prim.Native.Nat.{ℕ}
 use lib.ListN.{take}
 use Rattle.panel.specs.Panel.{Metadata, Gain, Panel}
-use Rattle.panel.specs.Of.{Lent, part, light-of, alternate-of, panel-of}
+use Rattle.panel.specs.Lent.{Lent}
+use Rattle.panel.specs.Of.{part, light-of, alternate-of, panel-of}
 use Rattle.panel.specs.declared.gain_map.EncodedGainMap.{EncodedGainMap}
 use Rattle.panel.specs.declared.gain_map.MaybeGainMap.{MaybeGainMap}
 use Rattle.panel.specs.declared.gain_map.MaybeGainMap.the-variants as G

@@ -5,11 +5,11 @@ use mathlib.Core.Option.{Option, none, some}
 use mathlib.Core.List.{List, []}
 use Prim.Native.Nat.{ℕ, _*_, _^_, _≤_, _<_}
 use native.Mathlib.Omega.{arith}
-use borrow.Author.Tests.{le-ltb}
 use lib.ListN.{length, length-append}
+use borrow.Author.Tests.{le-ltb}
 use Rattle.octets.specs.Numbers.{total}
 use Rattle.panel.specs.Panel.{Colour, Gain, Panel}
-use Rattle.panel.specs.Items.{has, tone-of}
+use Rattle.panel.specs.Parts.{has, tone-of}
 use Rattle.panel.specs.Agreement.{shown, filled}
 use Rattle.panel.specs.Widths.{Of, Light-fits, Gain-fits}
 use Rattle.panel.specs.declared.metadata.ContentLightLevel.{ContentLightLevel}
@@ -19,9 +19,12 @@ use Rattle.sheet_fields.specs.Codes.{orientation, cicp}
 use Rattle.sheet_frame.specs.Frame.{dims}
 use Rattle.sheet_frame.specs.declared.map.Map.{Map}
 use Rattle.sheet.specs.Sheet.{Pictures, two-pictures, colour, oriented, light, metadata, image, alternate, gain, fields, sheet}
-use Rattle.sheet_bytes.specs.Bytes.{string-bytes, cicp-bytes, optional-bytes, dims-bytes, pictures-bytes, colour-bytes, turned, orientation-bytes, light-bytes, metadata-bytes, image-bytes, cicp-in, icc-in, alternate-in, alternate-bytes, gain-bytes, present, pictures-in, sheet-bytes}
+use Rattle.sheet_bytes.specs.Bytes.{string-bytes, cicp-bytes, optional-bytes, dims-bytes, pictures-bytes, colour-bytes, turned, orientation-bytes}
+use Rattle.sheet_bytes.specs.Bytes.{light-bytes, metadata-bytes, image-bytes, cicp-in, icc-in, alternate-in, alternate-bytes, gain-bytes, present}
+use Rattle.sheet_bytes.specs.Bytes.{pictures-in, sheet-bytes}
 use Rattle.sheet_bytes.specs.Sayable.{Tiled, Shown, Sayable}
-use Rattle.sheet_bytes.proofs.Says.{Says, Ends, and-then, closes, as-well, off-bytes, off-number, off-string, off-lengths, off-optional, and-ends, last-ends}
+use Rattle.sheet_bytes.proofs.Says.{Says, Ends, and-then, closes, as-well, off-bytes, off-number, off-string, off-lengths, off-optional, and-ends}
+use Rattle.sheet_bytes.proofs.Says.{last-ends}
 use Rattle.sheet_bytes.proofs.Codes.{off-depth, off-orientation, turned-back, off-cicp}
 use Rattle.sheet_bytes.proofs.Maps.{off-map}
 

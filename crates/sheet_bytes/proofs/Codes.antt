@@ -16,7 +16,8 @@ use Rattle.panel.specs.declared.fmt.BitDepth.{BitDepth}
 use Rattle.panel.specs.declared.fmt.BitDepth.the-variants.{Eight, Ten, Twelve}
 use Rattle.panel.specs.declared.metadata.Orientation.{Orientation}
 use Rattle.panel.specs.declared.metadata.Orientation.the-variants.{Normal, FlipH, Rotate180, FlipV, Transpose, Rotate90, Transverse, Rotate270}
-use Rattle.codes.specs.Codes.{depth-code, every-depth, depth-named, orientation-code, every-orientation, orientation-named, bool-code, every-bool, yes-no}
+use Rattle.panel_codes.specs.Codes.{depth-code, every-depth, depth-named, orientation-code, every-orientation, orientation-named, bool-code}
+use Rattle.panel_codes.specs.Codes.{every-bool, yes-no}
 use Rattle.sheet_fields.specs.Codes.{depth, orientation, cicp}
 use Rattle.sheet_bytes.specs.Bytes.{cicp-bytes, orientation-bytes, turned}
 use Rattle.sheet_bytes.proofs.Says.{Says, and-then, closes, off-code}

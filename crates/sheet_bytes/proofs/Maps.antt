@@ -5,12 +5,12 @@ use mathlib.Core.Option.{Option, none, some}
 use mathlib.Core.List.{List}
 use Prim.Native.Nat.{ℕ, _+_, _*_, _^_, _/_, _%_, _≤_, _<_}
 use native.Mathlib.Omega.{arith}
-use borrow.Author.Tests.{le-ltb}
 use lib.Dec.{eqb}
 use lib.Pow.{high}
+use borrow.Author.Tests.{le-ltb}
 use Rattle.octets.specs.Numbers.{be}
 use Rattle.panel.specs.Panel.{Colour, Gain, Panel}
-use Rattle.panel.specs.Items.{has, tone-of}
+use Rattle.panel.specs.Parts.{has, tone-of}
 use Rattle.panel.specs.Agreement.{shown}
 use Rattle.panel.specs.Widths.{Of}
 use Rattle.sheet_fields.specs.Read.{give, refuse}

@@ -5,26 +5,31 @@ use mathlib.Core.Option.{Option, none, some}
 use mathlib.Core.List.{List, [], _∷_, _++_, map}
 use Prim.Native.Nat.{ℕ, _+_, _*_, _^_, _≤_, _<_}
 use native.Mathlib.Omega.{arith}
-use borrow.Author.Tests.{eq-eqb, le-ltb, ltb-false}
 use lib.Dec.{ltb}
 use lib.ListN.{length}
+use borrow.Author.Tests.{eq-eqb, le-ltb, ltb-false}
 use Rattle.octets.specs.Numbers.{_‖_, total}
 use Rattle.panel.specs.Panel.{Colour, Gain, Panel}
-use Rattle.panel.specs.Items.{ordinary, has, given, shape}
-use Rattle.panel.specs.Iloc.{wide}
-use Rattle.panel.specs.File.{rext, gain-rext, file}
-use Rattle.panel.specs.Refusal.{bad-grid, differ, bad-counts, bad-sum, last-id, bad-items, too-long, refusal-in}
+use Rattle.panel.specs.Form.{ordinary}
+use Rattle.panel.specs.Parts.{has, given}
 use Rattle.panel.specs.Widths.{Of}
-use Rattle.panel.specs.Answer.{refused, outcome, write-answer}
+use Rattle.panel.specs.Outcome.{refused, outcome}
 use Rattle.panel.specs.declared.GridDims.{GridDims}
 use Rattle.panel.specs.declared.color.Cicp.{Cicp}
 use Rattle.panel.specs.declared.metadata.Orientation.{Orientation}
 use Rattle.panel.specs.declared.metadata.Orientation.the-variants.{Normal, FlipH, Rotate180, FlipV, Transpose, Rotate90, Transverse, Rotate270}
-use Rattle.panel.proofs.Forms.{ordinary-items}
-use Rattle.length.specs.Parts.{Even}
-use Rattle.length.specs.Properties.{turn-count}
-use Rattle.length.specs.Shares.{Extra, share, wide-grid, alternate-cicp, light-level, grid-extras, turn-extras, exif-extras, colour-extras, profile-extras, alternate-extras, tone-extras, gain-extras, extras}
-use Rattle.length.proofs.Shares.{length-as-sum}
+use Rattle.heif.specs.Items.{shape, last-id, Even}
+use Rattle.heif.specs.Idat.{wide}
+use Rattle.heif.specs.Hvcc.{rext}
+use Rattle.heif.specs.Ftyp.{gain-rext}
+use Rattle.heif.specs.File.{file}
+use Rattle.heif.specs.Refusal.{bad-grid, differ, bad-counts, bad-sum, bad-items, too-long, refusal-in}
+use Rattle.heif.specs.Answer.{write-answer}
+use Rattle.heif.specs.Ipma.{turn-count}
+use Rattle.heif.proofs.Refusal.{ordinary-items}
+use Rattle.heif_length.specs.Shares.{Extra, share, wide-grid, alternate-cicp, light-level, grid-extras, turn-extras, exif-extras, colour-extras}
+use Rattle.heif_length.specs.Shares.{profile-extras, alternate-extras, tone-extras, gain-extras, extras}
+use Rattle.heif_length.proofs.Shares.{length-as-sum}
 use Rattle.sheet_fields.specs.Read.{Read, got, stop}
 use Rattle.sheet.specs.Sheet.{fields, sheet}
 use Rattle.sheet.specs.Answer.{answer-of, sheet-answer}

@@ -5,13 +5,13 @@ use mathlib.Core.Option.{Option, none, some}
 use mathlib.Core.List.{List, [], _∷_, _++_, flatMap, append-assoc, append-nil}
 use Prim.Native.Nat.{ℕ, _*_, _^_, _≤_, _<_}
 use native.Mathlib.Omega.{arith}
-use borrow.Author.Tests.{le-ltb}
 use lib.ListN.{length, take, drop, length-append}
 use lib.Seq.{take-at, drop-at}
+use borrow.Author.Tests.{le-ltb}
 use Rattle.octets.specs.Numbers.{_‖_, be, total, value}
 use Rattle.octets.proofs.Numbers.{length-be, value-be}
 use Rattle.octets.proofs.Lists.{length-flatMap}
-use Rattle.panel.specs.Items.{has}
+use Rattle.panel.specs.Parts.{has}
 use Rattle.panel.specs.Widths.{Of}
 use Rattle.sheet_fields.specs.Read.{Reader, got, stop, give, onward, _then_}
 use Rattle.sheet_fields.specs.Fields.{bytes, number, string, words, lengths, known, coded, optional}

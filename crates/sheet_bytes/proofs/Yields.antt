@@ -6,10 +6,10 @@ use mathlib.Core.Option.{Option, none, some}
 use mathlib.Core.List.{List, [], _∷_}
 use Prim.Native.Nat.{ℕ, zero, suc, _*_, _≤_}
 use native.Mathlib.Omega.{arith}
-use borrow.Author.Tests.{ltb-false}
 use lib.Dec.{ltb}
 use lib.ListN.{length, take, drop, length-drop}
 use lib.Seq.{length-take-le}
+use borrow.Author.Tests.{ltb-false}
 use Rattle.octets.specs.Numbers.{total}
 use Rattle.panel.specs.Panel.{Colour, Metadata, Gain, Panel}
 use Rattle.panel.specs.Agreement.{filled}

@@ -7,13 +7,13 @@ use lib.ListN.{length}
 use Rattle.octets.specs.Numbers.{_‖_, be}
 use Rattle.panel.specs.Types.{primaries-code, transfer-code, matrix-code}
 use Rattle.panel.specs.Panel.{Colour, Metadata, Gain, Panel}
-use Rattle.panel.specs.Items.{has, tone-of}
+use Rattle.panel.specs.Parts.{has, tone-of}
 use Rattle.panel.specs.declared.GridDims.{GridDims}
 use Rattle.panel.specs.declared.color.Cicp.{Cicp}
 use Rattle.panel.specs.declared.metadata.ContentLightLevel.{ContentLightLevel}
 use Rattle.panel.specs.declared.metadata.Orientation.{Orientation}
 use Rattle.panel.specs.declared.metadata.Orientation.the-variants.{Normal, FlipH, Rotate180, FlipV, Transpose, Rotate90, Transverse, Rotate270}
-use Rattle.codes.specs.Codes.{depth-code, orientation-code, bool-code}
+use Rattle.panel_codes.specs.Codes.{depth-code, orientation-code, bool-code}
 use Rattle.sheet_frame.specs.declared.map.Map.{Map}
 use Rattle.sheet.specs.Sheet.{Pictures}
 

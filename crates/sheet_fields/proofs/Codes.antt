@@ -3,12 +3,12 @@ use mathlib.Core.Path.{_≡_, refl, sym, ap}
 use mathlib.Core.Option.{Option·getD}
 use mathlib.Core.List.{List}
 use Prim.Native.Nat.{ℕ}
-use Rattle.panel.specs.Agreement.{unspecified}
+use Rattle.panel.specs.Types.{unspecified}
 use Rattle.panel.specs.Codes.{primaries-named, transfer-named, matrix-named}
 use Rattle.panel.specs.declared.color.Cicp.{Cicp}
-use Rattle.codes.specs.Codes.{yes-no, cicp-named, is-code}
-use Rattle.codes.specs.declared.CodeKind.the-variants as K
-use Rattle.codes.proofs.Chain.{goes-on}
+use Rattle.panel_codes.specs.Codes.{yes-no, cicp-named, is-code}
+use Rattle.panel_codes.specs.declared.CodeKind.the-variants as K
+use Rattle.panel_codes.proofs.Chain.{goes-on}
 use Rattle.sheet_fields.specs.Read.{Reader, give, _then_}
 use Rattle.sheet_fields.specs.Fields.{code-number}
 use Rattle.sheet_fields.specs.Codes.{cicp}

@@ -4,14 +4,14 @@ use mathlib.Core.Bool.{Bool, true, false, cond}
 use mathlib.Core.Option.{Option, none, some, Option·getD}
 use mathlib.Core.List.{List}
 use Prim.Native.Nat.{ℕ, zero, suc, _+_, _≤_, _<_}
-use borrow.Author.Tests.{lt-ltb, le-ltb}
 use native.Mathlib.Nat.{min-le-left, min-le-right}
 use native.Mathlib.Omega.{arith}
 use lib.ListN.{length, take, drop, length-take, length-drop}
 use lib.Seq.{drop-drop}
-use Rattle.panel.specs.Items.{has}
-use Rattle.panel.specs.declared.color.Part.the-variants.{Absent, Present}
-use Rattle.codes.specs.Codes.{part-if}
+use borrow.Author.Tests.{lt-ltb, le-ltb}
+use Rattle.panel.specs.Parts.{has}
+use Rattle.panel.specs.declared.part.Part.the-variants.{Absent, Present}
+use Rattle.panel_codes.specs.Codes.{part-if}
 use Rattle.sheet_fields.specs.Read.{Read, got, stop, Reader, give, refuse, onward, _then_}
 use Rattle.sheet_fields.specs.Fields.{bytes, number, known, coded, code-number, optional}
 use Rattle.sheet_fields.specs.Cursor.{span-of, from-at, from, Reads, earlier, refused-at}

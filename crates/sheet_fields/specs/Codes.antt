@@ -7,7 +7,7 @@ use Rattle.panel.specs.declared.color.MatrixCoefficients.{MatrixCoefficients}
 use Rattle.panel.specs.declared.color.Cicp.{Cicp}
 use Rattle.panel.specs.declared.fmt.BitDepth.{BitDepth}
 use Rattle.panel.specs.declared.metadata.Orientation.{Orientation}
-use Rattle.codes.specs.Codes.{depth-named, orientation-named, yes-no}
+use Rattle.panel_codes.specs.Codes.{depth-named, orientation-named, yes-no}
 use Rattle.sheet_fields.specs.Read.{Reader, give, _then_}
 use Rattle.sheet_fields.specs.Fields.{coded}
 

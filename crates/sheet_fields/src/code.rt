@@ -1,6 +1,6 @@
 // The fields of a sheet that are codes. A code that stands for nothing is refused with 13.
 ghost use Prim.Native.Nat.{_*_, _^_, _≤_, _<_};
-ghost use Rattle.codes.specs.Codes.{is-code};
+ghost use Rattle.panel_codes.specs.Codes.{is-code};
 ghost use Rattle.sheet_fields.specs.Fields.{code-number};
 ghost use Rattle.sheet_fields.specs.Codes.{depth, cicp};
 ghost use Rattle.sheet_fields.specs.Cursor.{Reads};
@@ -8,13 +8,13 @@ use crate::Cursor;
 use crate::NumberRead;
 use crate::read_number;
 use crate::refused;
-use codes::CodeKind;
-use codes::cicp_named;
-use codes::depth_named;
-use codes::is_code;
-use codes::or_unspecified;
 use panel::color::Cicp;
 use panel::fmt::BitDepth;
+use panel_codes::CodeKind;
+use panel_codes::cicp_named;
+use panel_codes::depth_named;
+use panel_codes::is_code;
+use panel_codes::or_unspecified;
 
 // A depth, and the cursor behind it.
 pub struct DepthRead {

@@ -6,8 +6,7 @@ pub mod optional;
 ghost use mathlib.Core.Path.{_≡_};
 ghost use Prim.Native.Nat.{_+_, _*_, _^_, _≤_, _<_};
 ghost use lib.ListN.{length, take, drop};
-ghost use Rattle.octets.specs.Numbers.{total};
-ghost use Rattle.octets.specs.Numbers.{value};
+ghost use Rattle.octets.specs.Numbers.{total, value};
 ghost use Rattle.sheet_fields.specs.Fields.{bytes, number, string, words, lengths};
 ghost use Rattle.sheet_fields.specs.Cursor.{span-of, Reads, refused-at};
 

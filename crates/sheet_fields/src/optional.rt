@@ -8,8 +8,8 @@ ghost use Rattle.sheet_fields.specs.Cursor.{span-of, Reads};
 use crate::Cursor;
 use crate::Span;
 use crate::read_string;
-use codes::optional::part_if;
-use panel::color::Part;
+use panel::part::Part;
+use panel_codes::optional::part_if;
 
 // A byte part, present or not, and the cursor behind it.
 pub struct PartRead {

@@ -3,14 +3,15 @@ use mathlib.Core.Path.{_≡_, refl, sym, ap, _∙_}
 use mathlib.Core.Bool.{cond}
 use mathlib.Core.List.{List}
 use Prim.Native.Nat.{ℕ, zero, suc, _≤_, _<_}
-use borrow.Author.Tests.{lt-ltb, le-ltb}
 use lib.ListN.{length, drop}
+use borrow.Author.Tests.{lt-ltb, le-ltb}
 use Rattle.panel.specs.Panel.{Panel}
-use Rattle.panel.specs.Of.{Lent, panel-of}
-use Rattle.panel.specs.Items.{ordinary}
-use Rattle.panel.specs.Answer.{Outcome, refused, Promised}
+use Rattle.panel.specs.Lent.{Lent, lent}
+use Rattle.panel.specs.Of.{panel-of}
+use Rattle.panel.specs.Form.{ordinary}
+use Rattle.panel.specs.Outcome.{Outcome, refused}
 use Rattle.panel.specs.declared.Panel.{Panel as Numbers}
-use Rattle.layout.specs.Lent.{lent}
+use Rattle.heif.specs.Answer.{Promised}
 use Rattle.sheet_fields.specs.Read.{Read, got, stop, give}
 use Rattle.sheet_fields.specs.Cursor.{from-at, Reads}
 use Rattle.sheet_fields.specs.declared.Cursor.{Cursor}

@@ -1,5 +1,5 @@
 -- What the answer of the sheet's call says.
-use Rattle.panel.specs.Answer.{Outcome, made, refused}
+use Rattle.panel.specs.Outcome.{Outcome, made, refused}
 use Rattle.sheet_file.specs.declared.SheetAnswer.{SheetAnswer}
 use Rattle.sheet_file.specs.declared.SheetAnswer.the-variants.{Length, Refused}
 

@@ -3,36 +3,23 @@ ghost use mathlib.Core.Path.{_≡_};
 ghost use Prim.Native.Nat.{_≤_};
 ghost use lib.ListN.{length};
 ghost use Rattle.panel.specs.Of.{panel-of};
-ghost use Rattle.panel.specs.Items.{ordinary};
-ghost use Rattle.panel.specs.Answer.{number, says, Promised};
+ghost use Rattle.panel.specs.Form.{ordinary};
+ghost use Rattle.panel.specs.Outcome.{says};
+ghost use Rattle.heif.specs.Answer.{Promised};
 ghost use Rattle.sheet.specs.Answer.{Sheet-promised};
 ghost use Rattle.sheet.specs.Said.{lent-said};
 ghost use Rattle.sheet_file.specs.Says.{sheet-says};
 use panel::Answer;
-use panel::Refusal;
+use panel::refusal_number;
 use sheet::SheetRead;
 use sheet::read_sheet;
 use sheet_fields::part;
-use wrap::wrap_hevc_grid_with_alpha;
+use write_file::wrap_hevc_grid_with_alpha;
 
 // What the sheet's call answers: the file's length, or the number of the refusal.
 pub enum SheetAnswer {
     Length(u64),
     Refused(u8),
-}
-
-// The number of a refusal.
-pub fn refusal_number(r: Refusal) -> u8
-    ensures { λ k. ⌜ k ≡ number r ⌝ }
-{
-    match r {
-        Refusal::GridSide => 1,
-        Refusal::TileCount => 2,
-        Refusal::SampleLengths => 3,
-        Refusal::ItemIds => 4,
-        Refusal::FileLength => 5,
-        Refusal::OutputLength => 6,
-    }
 }
 
 // What the panel is answered, as the sheet's answer.

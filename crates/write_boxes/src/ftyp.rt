@@ -1,28 +1,18 @@
 // ftyp: the brands of a file.
 ghost use mathlib.Core.Path.{_≡_};
-ghost use mathlib.Core.Bool.{_&&_, not, cond};
+ghost use mathlib.Core.Bool.{cond};
 ghost use mathlib.Core.List.{[], _∷_};
 ghost use Prim.Native.Nat.{_+_, _≤_};
 ghost use lib.ListN.{length};
 ghost use Rattle.octets.specs.Numbers.{_‖_, be, text};
 ghost use Rattle.octets.specs.Stores.{Wrote, Boxed};
-ghost use Rattle.panel.specs.Items.{given};
-ghost use Rattle.panel.specs.File.{rext, ftyp};
-ghost use Rattle.length.specs.Size.{ftyp-size};
-ghost use Rattle.boxes.specs.Brands.{brand};
+ghost use Rattle.panel.specs.Parts.{given};
+ghost use Rattle.heif.specs.Hvcc.{rext};
+ghost use Rattle.heif.specs.Ftyp.{ftyp, ftyp-size, brand};
 use octets::put;
 use octets::w32;
 use octets::write_box;
-
-// Whether a decoder configuration record is of the range extensions' profile.
-pub fn hvcc_uses_rext(hvcc: &[u8]) -> bool
-    ensures { λ r. ⌜ r ≡ rext (now (hvcc .entry)) ⌝ }
-{
-    if hvcc.len() < 2 {
-        return false;
-    }
-    hvcc[1] % 32 == 4
-}
+use plan_items::brands::adds_heix;
 
 // The brand of a picture.
 fn write_brand(out: &mut [u8], at: usize, rext: bool) -> usize
@@ -75,11 +65,4 @@ pub fn write_ftyp(
     let b = write_brands(out, a, color);
     let c = write_extra_brand(out, b, adds_heix(color, gain), b"heix");
     write_extra_brand(out, c, tone, b"tmap")
-}
-
-// Whether the gain map's record adds a brand that the colour record did not bring.
-pub fn adds_heix(color: bool, gain: bool) -> bool
-    ensures { λ r. ⌜ r ≡ (gain && not color) ⌝ }
-{
-    gain && !color
 }

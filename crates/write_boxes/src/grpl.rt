@@ -4,11 +4,15 @@ ghost use Prim.Native.Nat.{_+_, _≤_, _<_};
 ghost use lib.ListN.{length};
 ghost use Rattle.octets.specs.Boxes.{box, boxes};
 ghost use Rattle.octets.specs.Stores.{Boxed};
-ghost use Rattle.panel.specs.File.{altr};
+ghost use Rattle.heif.specs.Grpl.{altr, grpl, grpl-size};
+ghost use Rattle.plan_items.specs.Items.{Shaped};
 use octets::w32;
 use octets::write_box;
 use octets::write_fullbox;
+use panel::Shape;
 use panel::WideItemId;
+use plan_items::ids::color_grid_id;
+use plan_items::ids::tmap_id;
 
 // altr: a tone map or else a grid is shown; the group's id is the first that no item has.
 fn write_altr(out: &mut [u8], at: usize, tone: WideItemId, grid: WideItemId) -> usize
@@ -31,4 +35,18 @@ pub fn write_grpl(out: &mut [u8], at: usize, tone: WideItemId, grid: WideItemId)
 {
     let a = write_box(out, at, 36, b"grpl");
     write_altr(out, a, tone, grid)
+}
+
+// grpl, where there is a tone map.
+pub fn write_groups(out: &mut [u8], at: usize, s: Shape) -> usize
+    requires { ⌜ at + grpl-size s ≤ length (now out) ⌝ }
+    requires { ⌜ Shaped s ⌝ }
+    ensures { λ r. ⌜ Boxed (now (out .entry)) at (grpl-size s) (grpl s) (now (out .exit)) r ⌝ }
+{
+    if s.tone {
+        let tone = tmap_id(s);
+        let grid = color_grid_id(s);
+        return write_grpl(out, at, tone, grid);
+    }
+    at
 }

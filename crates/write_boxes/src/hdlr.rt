@@ -3,7 +3,7 @@ ghost use mathlib.Core.List.{[], _∷_};
 ghost use Prim.Native.Nat.{_+_, _≤_};
 ghost use lib.ListN.{length};
 ghost use Rattle.octets.specs.Stores.{Boxed};
-ghost use Rattle.panel.specs.File.{hdlr};
+ghost use Rattle.heif.specs.Hdlr.{hdlr};
 use octets::put;
 use octets::w8;
 use octets::w32;

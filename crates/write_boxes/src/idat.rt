@@ -1,25 +1,20 @@
-// The descriptor of a grid: how many rows and columns of tiles it has, and the size of the whole picture.
+// idat: the descriptors of the two grids, each of which says how many rows and columns of tiles there are, and the size of the whole picture.
 ghost use mathlib.Core.Path.{_≡_};
 ghost use mathlib.Core.Bool.{false, cond};
+ghost use mathlib.Core.List.{[], _∷_};
 ghost use Prim.Native.Nat.{_+_, _-_, _≤_};
 ghost use lib.ListN.{length};
 ghost use Rattle.octets.specs.Numbers.{_‖_, be};
-ghost use Rattle.octets.specs.Stores.{Wrote};
-ghost use Rattle.panel.specs.Iloc.{wide, descriptor};
-ghost use Rattle.length.specs.Size.{descriptor-size};
-ghost use Rattle.grids.specs.Descriptors.{Sided};
+ghost use Rattle.octets.specs.Stores.{Wrote, Boxed};
+ghost use Rattle.heif.specs.Idat.{descriptor, descriptor-size, idat, idat-size};
+ghost use Rattle.write_boxes.specs.Idat.{Sided};
 use octets::w8;
 use octets::w16;
 use octets::w32;
-use octets::when;
+use octets::write_box;
 use panel::GridDims;
-
-// Whether the whole picture is wider or higher than 16 bits can say.
-fn is_wide(d: GridDims) -> bool
-    ensures { λ r. ⌜ r ≡ wide d ⌝ }
-{
-    d.full_w > 65535 || d.full_h > 65535
-}
+use panel::part::when;
+use plan_items::grid::is_wide;
 
 // The first four bytes of a grid's descriptor.
 fn write_grid_head(out: &mut [u8], at: usize, flags: u8, d: GridDims) -> usize
@@ -58,13 +53,14 @@ pub fn write_descriptor(out: &mut [u8], at: usize, d: GridDims) -> usize
     write_side(out, b, large, d.full_h)
 }
 
-// The length of a grid's descriptor.
-pub fn descriptor_length(d: GridDims) -> u32
-    ensures { λ r. ⌜ r ≡ descriptor-size d ⌝ }
-    ensures { λ r. ⌜ r ≤ 12 ⌝ }
+// idat: the descriptor of each grid.
+pub fn write_idat(out: &mut [u8], at: usize, size: u32, d: GridDims) -> usize
+    requires { ⌜ at + (8 + idat-size d) ≤ length (now out) ⌝ }
+    requires { ⌜ Sided d ⌝ }
+    requires { ⌜ size ≡ 8 + idat-size d ⌝ }
+    ensures { λ r. ⌜ Boxed (now (out .entry)) at (8 + idat-size d) (idat d ∷ []) (now (out .exit)) r ⌝ }
 {
-    if is_wide(d) {
-        return 12;
-    }
-    8
+    let a = write_box(out, at, size, b"idat");
+    let b = write_descriptor(out, a, d);
+    write_descriptor(out, b, d)
 }

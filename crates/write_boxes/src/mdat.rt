@@ -1,16 +1,33 @@
 // The gain map's payloads in mdat.
-ghost use mathlib.Core.List.{flatten};
-ghost use Prim.Native.Nat.{_+_, _≤_};
+ghost use mathlib.Core.Path.{_≡_};
+ghost use mathlib.Core.List.{[], _∷_, flatten};
+ghost use Prim.Native.Nat.{_+_, _≤_, _<_};
 ghost use lib.ListN.{length};
-ghost use Rattle.octets.specs.Stores.{Wrote};
-ghost use Rattle.panel.specs.Items.{listed, gain-payloads};
-ghost use Rattle.panel.specs.Of.{part};
-ghost use Rattle.length.specs.Parts.{long};
-ghost use Rattle.length.specs.Size.{gain-data-size};
-ghost use Rattle.gain_map.specs.Parts.{with-payloads};
+ghost use Rattle.octets.specs.Numbers.{_‖_};
+ghost use Rattle.octets.specs.Boxes.{box};
+ghost use Rattle.octets.specs.Stores.{Wrote, Boxed};
+ghost use Rattle.panel.specs.Of.{part, with-payloads};
+ghost use Rattle.panel.specs.Parts.{listed, long};
+ghost use Rattle.heif.specs.Mdat.{exif-payload, gain-payloads, exif-size, gain-data-size};
 use octets::put;
-use panel::color::Part;
+use octets::w32;
+use octets::write_box;
 use panel::gain_map::MaybeGainMap;
+use panel::part::Part;
+
+// The Exif payload, where it is present: the offset of the TIFF header, which is 0, then the Exif bytes.
+fn write_exif_payload(out: &mut [u8], at: usize, present: Part, exif: &[u8]) -> usize
+    requires { ⌜ at + exif-size (part present (now exif)) ≤ length (now out) ⌝ }
+    ensures { λ r. ⌜ Wrote (now (out .entry)) at (exif-size (part present (now (exif .entry)))) (flatten (exif-payload (part present (now (exif .entry))))) (now (out .exit)) r ⌝ }
+{
+    match present {
+        Part::Present => {
+            let a = w32(out, at, 0);
+            put(out, a, exif)
+        }
+        Part::Absent => at,
+    }
+}
 
 // The bytes of a part, where it is present.
 fn put_part(out: &mut [u8], at: usize, present: Part, bytes: &[u8]) -> usize
@@ -44,4 +61,30 @@ pub fn write_data(
         }
         MaybeGainMap::None => at,
     }
+}
+
+// mdat.
+pub fn write_mdat(
+    out: &mut [u8],
+    at: usize,
+    size: u32,
+    exif_present: Part,
+    gain: MaybeGainMap,
+    color_samples: &[u8],
+    alpha_samples: &[u8],
+    exif: &[u8],
+    gain_sample: &[u8],
+    gain_xmp: &[u8],
+    gain_tmap: &[u8],
+) -> usize
+    requires { ⌜ at + (8 + (length (now «color_samples») + (length (now «alpha_samples») + (exif-size (part «exif_present» (now exif)) + gain-data-size (with-payloads gain (now «gain_sample») (now «gain_xmp») (now «gain_tmap»)))))) ≤ length (now out) ⌝ }
+    requires { ⌜ size ≡ (8 + (length (now «color_samples») + (length (now «alpha_samples») + (exif-size (part «exif_present» (now exif)) + gain-data-size (with-payloads gain (now «gain_sample») (now «gain_xmp») (now «gain_tmap»)))))) ⌝ }
+    requires { ⌜ (8 + (length (now «color_samples») + (length (now «alpha_samples») + (exif-size (part «exif_present» (now exif)) + gain-data-size (with-payloads gain (now «gain_sample») (now «gain_xmp») (now «gain_tmap»)))))) < 4294967296 ⌝ }
+    ensures { λ r. ⌜ Boxed (now (out .entry)) at (8 + (length (now («color_samples» .entry)) + (length (now («alpha_samples» .entry)) + (exif-size (part «exif_present» (now (exif .entry))) + gain-data-size (with-payloads gain (now («gain_sample» .entry)) (now («gain_xmp» .entry)) (now («gain_tmap» .entry))))))) (box "mdat" (now («color_samples» .entry) ‖ now («alpha_samples» .entry) ‖ flatten (exif-payload (part «exif_present» (now (exif .entry)))) ‖ flatten (gain-payloads (with-payloads gain (now («gain_sample» .entry)) (now («gain_xmp» .entry)) (now («gain_tmap» .entry))))) ∷ []) (now (out .exit)) r ⌝ }
+{
+    let a = write_box(out, at, size, b"mdat");
+    let b = put(out, a, color_samples);
+    let c = put(out, b, alpha_samples);
+    let d = write_exif_payload(out, c, exif_present, exif);
+    write_data(out, d, gain, gain_sample, gain_xmp, gain_tmap)
 }

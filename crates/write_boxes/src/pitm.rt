@@ -5,12 +5,12 @@ ghost use lib.ListN.{length};
 ghost use Rattle.octets.specs.Numbers.{be};
 ghost use Rattle.octets.specs.Boxes.{full};
 ghost use Rattle.octets.specs.Stores.{Boxed};
-ghost use Rattle.panel.specs.Forms.{form-of};
-use crate::form::ids_bytes;
-use crate::form::write_item_box;
-use crate::ids::write_id;
+ghost use Rattle.panel.specs.Form.{form-of};
 use panel::FileForm;
 use panel::WideItemId;
+use plan_items::form::ids_bytes;
+use write_ids::form::write_item_box;
+use write_ids::write_id;
 
 // pitm: the primary item's id.
 pub fn write_pitm(out: &mut [u8], at: usize, form: FileForm, id: WideItemId) -> usize

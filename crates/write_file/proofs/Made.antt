@@ -8,30 +8,36 @@ use lib.ListN.{length}
 use Rattle.octets.specs.Numbers.{_‖_, total}
 use Rattle.octets.specs.Boxes.{Box, box, full, boxes}
 use Rattle.panel.specs.Panel.{Tiles, Gain, Panel}
-use Rattle.panel.specs.Of.{Lent, panel-of, part}
-use Rattle.panel.specs.Items.{Form, given, has, listed, tone-of, shape, exif-payload, gain-payloads, other-payloads, colour-grid, alpha-tile, alpha-grid, exif-id}
-use Rattle.panel.specs.Iloc.{Location, descriptor, extents, located, locations}
-use Rattle.panel.specs.Ipco.{slots, ipco}
-use Rattle.panel.specs.Ipma.{positions, associations, ipma}
-use Rattle.panel.specs.File.{ftyp, head, grpl, idat, meta, mdat, data-at, file}
+use Rattle.panel.specs.Lent.{Lent, lent-props}
+use Rattle.panel.specs.Of.{panel-of, part, with-payloads}
+use Rattle.panel.specs.Form.{Form}
+use Rattle.panel.specs.Parts.{given, has, listed, tone-of, long}
 use Rattle.panel.specs.declared.Panel.{Panel as Numbers}
-use Rattle.panel.proofs.Payloads.{flatten-samples, lengths-samples, cut, locations-runs}
-use Rattle.length.specs.Parts.{Even, long}
-use Rattle.length.specs.Size.{exif-size}
-use Rattle.locations.specs.Spans.{spans}
-use Rattle.locations.proofs.Spans.{extents-spans}
-use Rattle.gain_map.specs.Parts.{with-payloads}
-use Rattle.offsets.specs.Laid.{Laid}
-use Rattle.offsets.specs.declared.Layout.{Layout}
-use Rattle.isobmff.specs.Locations.{other-sizes, placed}
-use Rattle.isobmff.specs.Parts.{lent-props}
-use Rattle.places.specs.Roles.{its-of}
-use Rattle.isobmff.specs.Sections.{item-boxes, property-boxes}
-use Rattle.isobmff.proofs.Parts.{ipco-parts, mdat-parts}
-use Rattle.locations.specs.Payloads.{payload-lengths}
-use Rattle.layout.specs.Plan.{Made-from}
-use Rattle.layout.specs.declared.FilePlan.{FilePlan}
-use Rattle.wrap.proofs.Ready.{even, color-sum, alpha-sum, same-associations, same-dims, same-tiles, same-alpha}
+use Rattle.heif.specs.Items.{shape, colour-grid, alpha-tile, alpha-grid, exif-id, Even}
+use Rattle.heif.specs.Mdat.{exif-payload, gain-payloads, other-payloads, mdat, exif-size}
+use Rattle.heif.specs.Iloc.{Location, extents, located, locations}
+use Rattle.heif.specs.Idat.{descriptor, idat}
+use Rattle.heif.specs.Ipco.{slots, ipco}
+use Rattle.heif.specs.Ipma.{positions, associations, ipma}
+use Rattle.heif.specs.Ftyp.{ftyp, head}
+use Rattle.heif.specs.Grpl.{grpl}
+use Rattle.heif.specs.Meta.{meta}
+use Rattle.heif.specs.File.{data-at, file}
+use Rattle.heif.proofs.Mdat.{flatten-samples, lengths-samples, cut}
+use Rattle.heif.proofs.Iloc.{locations-runs}
+use Rattle.plan_items.specs.Payloads.{payload-lengths}
+use Rattle.plan_positions.specs.Roles.{its-of}
+use Rattle.plan_layout.specs.Laid.{Laid}
+use Rattle.plan_layout.specs.declared.Layout.{Layout}
+use Rattle.plan.specs.Plan.{Made-from}
+use Rattle.plan.specs.declared.FilePlan.{FilePlan}
+use Rattle.write_boxes.proofs.Payloads.{mdat-parts}
+use Rattle.write_properties.proofs.Parts.{ipco-parts}
+use Rattle.write_iloc.specs.Spans.{spans}
+use Rattle.write_iloc.specs.Locations.{other-sizes, placed}
+use Rattle.write_iloc.proofs.Spans.{extents-spans}
+use Rattle.write_meta.specs.Sections.{item-boxes, property-boxes}
+use Rattle.write_file.proofs.Ready.{even, color-sum, alpha-sum, same-associations, same-dims, same-tiles, same-alpha}
 
 -- ---- the sizes of the payloads behind the samples
 

@@ -10,15 +10,16 @@ use borrow.Author.Tests.{lt-ltb, le-ltb}
 use Rattle.octets.specs.Stores.{Wrote}
 use Rattle.octets.proofs.Stores.{front}
 use Rattle.panel.specs.Panel.{Panel}
-use Rattle.panel.specs.Items.{Form}
-use Rattle.panel.specs.File.{file}
-use Rattle.panel.specs.Refusal.{Check, check, first, checks, refusal, refusal-in}
-use Rattle.panel.specs.Answer.{Outcome, made, refused, number, says, outcome, length-answer, write-answer, left, after, Promised}
+use Rattle.panel.specs.Form.{Form}
+use Rattle.panel.specs.Outcome.{Outcome, made, refused, number, says, outcome}
 use Rattle.panel.specs.declared.Refusal.{Refusal}
 use Rattle.panel.specs.declared.Refusal.the-variants.{GridSide, TileCount, SampleLengths, ItemIds, FileLength, OutputLength}
 use Rattle.panel.specs.declared.Answer.the-variants.{Length, Refused}
-use Rattle.layout.specs.Plan.{Made-from}
-use Rattle.layout.specs.declared.FilePlan.{FilePlan}
+use Rattle.heif.specs.File.{file}
+use Rattle.heif.specs.Refusal.{Check, check, first, checks, refusal, refusal-in}
+use Rattle.heif.specs.Answer.{length-answer, write-answer, left, after, Promised}
+use Rattle.plan.specs.Plan.{Made-from}
+use Rattle.plan.specs.declared.FilePlan.{FilePlan}
 
 -- ---- a list of checks, and one more behind it
 

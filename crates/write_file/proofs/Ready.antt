@@ -7,36 +7,52 @@ use native.Mathlib.Omega.{arith}
 use lib.ListN.{length}
 use Rattle.octets.specs.Numbers.{total}
 use Rattle.panel.specs.Panel.{Tiles, Panel, Gain}
-use Rattle.panel.specs.Of.{Lent, panel-of, part}
-use Rattle.panel.specs.Items.{Form, has, tone-of, shape}
-use Rattle.panel.specs.Ipco.{slots, ipco}
-use Rattle.panel.specs.Ipma.{positions, associations, ipma}
-use Rattle.panel.specs.File.{rext, gain-rext, data-at, file, iprp}
+use Rattle.panel.specs.Lent.{Lent, lent-props}
+use Rattle.panel.specs.Of.{panel-of, part, with-payloads}
+use Rattle.panel.specs.Form.{Form}
+use Rattle.panel.specs.Parts.{has, tone-of}
 use Rattle.panel.specs.declared.Panel.{Panel as Numbers}
 use Rattle.panel.specs.declared.Shape.{Shape}
-use Rattle.panel.proofs.Accepted.{Accepted, accepted}
-use Rattle.length.specs.Parts.{Even}
-use Rattle.length.specs.Properties.{ipma-size}
-use Rattle.length.specs.Size.{ftyp-size, iloc-size, iinf-size, iref-size, exif-size, gain-data-size, mdat-size, size}
-use Rattle.length.proofs.Boxes.{length-iloc, length-iinf, length-iref}
-use Rattle.length.proofs.Properties.{length-ipco, length-ipma}
-use Rattle.length.proofs.File.{length-head, length-iprp, length-idat, length-meta, length-mdat, data-at-size, length-file, even-accepted}
-use Rattle.boxes.specs.Runs.{Shaped}
-use Rattle.grids.specs.Descriptors.{Sided}
-use Rattle.gain_map.specs.Parts.{with-payloads}
-use Rattle.offsets.specs.Laid.{Laid}
-use Rattle.offsets.specs.declared.Layout.{Layout}
-use Rattle.isobmff.specs.Parts.{lent-props}
-use Rattle.places.specs.Roles.{its-of}
-use Rattle.places.specs.Counts.{ipma-bytes}
-use Rattle.isobmff.specs.Sections.{item-boxes-size, Item-sizes, iprp-bytes, idat-bytes, property-boxes-size, Property-sizes}
-use Rattle.places.specs.declared.Places.{Places}
-use Rattle.places.proofs.Sizes.{associated-alike, ipma-by-runs}
-use Rattle.locations.specs.declared.PayloadLengths.{PayloadLengths}
-use Rattle.sizes.proofs.Caps.{together}
-use Rattle.layout.specs.Plan.{Made-from}
-use Rattle.layout.specs.declared.FilePlan.{FilePlan}
-use Rattle.isobmff.proofs.Parts.{ipco-size-parts, mdat-sum}
+use Rattle.panel.specs.declared.GridDims.{GridDims}
+use Rattle.heif.specs.Items.{shape, Even}
+use Rattle.heif.specs.Ipco.{slots, ipco}
+use Rattle.heif.specs.Ipma.{positions, associations, ipma, ipma-size}
+use Rattle.heif.specs.Hvcc.{rext}
+use Rattle.heif.specs.Ftyp.{gain-rext, ftyp-size}
+use Rattle.heif.specs.File.{data-at, file, size}
+use Rattle.heif.specs.Iprp.{iprp}
+use Rattle.heif.specs.Idat.{idat-size}
+use Rattle.heif.specs.Iloc.{iloc-size}
+use Rattle.heif.specs.Iinf.{iinf-size}
+use Rattle.heif.specs.Iref.{iref-size}
+use Rattle.heif.specs.Mdat.{exif-size, gain-data-size, mdat-size}
+use Rattle.heif.proofs.Refusal.{Accepted, accepted, even-accepted}
+use Rattle.heif.proofs.Iloc.{length-iloc}
+use Rattle.heif.proofs.Iinf.{length-iinf}
+use Rattle.heif.proofs.Iref.{length-iref}
+use Rattle.heif.proofs.Ipco.{length-ipco}
+use Rattle.heif.proofs.Ipma.{length-ipma}
+use Rattle.heif.proofs.Ftyp.{length-head}
+use Rattle.heif.proofs.Iprp.{length-iprp}
+use Rattle.heif.proofs.Idat.{length-idat}
+use Rattle.heif.proofs.Meta.{length-meta}
+use Rattle.heif.proofs.Mdat.{length-mdat}
+use Rattle.heif.proofs.File.{data-at-size, length-file}
+use Rattle.plan_items.specs.Items.{Shaped}
+use Rattle.plan_items.specs.declared.payloads.PayloadLengths.{PayloadLengths}
+use Rattle.plan_positions.specs.Roles.{its-of}
+use Rattle.plan_positions.specs.Counts.{ipma-bytes}
+use Rattle.plan_positions.specs.declared.Places.{Places}
+use Rattle.plan_positions.proofs.Sizes.{associated-alike, ipma-by-runs}
+use Rattle.plan_sizes.proofs.Caps.{together}
+use Rattle.plan_layout.specs.Laid.{Laid}
+use Rattle.plan_layout.specs.declared.Layout.{Layout}
+use Rattle.plan.specs.Plan.{Made-from}
+use Rattle.plan.specs.declared.FilePlan.{FilePlan}
+use Rattle.write_boxes.specs.Idat.{Sided}
+use Rattle.write_boxes.proofs.Payloads.{mdat-sum}
+use Rattle.write_properties.proofs.Parts.{ipco-size-parts}
+use Rattle.write_meta.specs.Sections.{item-boxes-size, Item-sizes, iprp-bytes, property-boxes-size, Property-sizes}
 
 -- ---- what is lent, read off the panel
 
@@ -124,7 +140,7 @@ module _ (n : Numbers) (l : Lent) where
           ipco = e .ipco ∙ ap (λ (k : ℕ). 8 + k) (length-ipco p ∙ ipco-size-parts n l);
           ipma = e .ipma ∙ ap (λ (k : ℕ). 8 + k) (length-ipma w p) ∙ its-ipma ∙ ap (λ (s : Shape). ipma-bytes w s z) at;
           iprp = e .iprp ∙ ap (λ (k : ℕ). 8 + k) (length-iprp w p) ∙ (λ i. 8 + ((8 + ipco-size-parts n l i) + its-ipma i)) ∙ ap (λ (s : Shape). iprp-bytes w q s z) at;
-          idat = omega (arith, e .idat, length-idat (p .dims)) ∙ ap idat-bytes same-dims;
+          idat = omega (arith, e .idat, length-idat (p .dims)) ∙ ap (λ (d : GridDims). 8 + idat-size d) same-dims;
           short = omega (arith, fits, ipco-size-parts n l);
         }
 

@@ -3,23 +3,23 @@ ghost use Prim.Native.Nat.{_≤_};
 ghost use lib.ListN.{length};
 ghost use Rattle.octets.specs.Stores.{Wrote};
 ghost use Rattle.panel.specs.Of.{panel-of};
-ghost use Rattle.panel.specs.Items.{ordinary};
-ghost use Rattle.panel.specs.Forms.{form-of};
-ghost use Rattle.panel.specs.File.{file};
+ghost use Rattle.panel.specs.Form.{ordinary, form-of};
 ghost use Rattle.panel.specs.Widths.{Fits};
-ghost use Rattle.panel.specs.Answer.{says, Promised};
-ghost use Rattle.layout.specs.Lent.{lent};
-ghost use Rattle.layout.specs.Plan.{Made-from};
-use boxes::ftyp::write_ftyp;
-use isobmff::meta::write_meta;
-use isobmff::payload::write_mdat;
-use layout::FilePlan;
-use layout::Plan;
-use layout::plan_of;
+ghost use Rattle.panel.specs.Outcome.{says};
+ghost use Rattle.panel.specs.Lent.{lent};
+ghost use Rattle.heif.specs.File.{file};
+ghost use Rattle.heif.specs.Answer.{Promised};
+ghost use Rattle.plan.specs.Plan.{Made-from};
 use panel::Answer;
 use panel::FileForm;
 use panel::Panel;
 use panel::Refusal;
+use plan::FilePlan;
+use plan::Plan;
+use plan::plan_of;
+use write_boxes::ftyp::write_ftyp;
+use write_boxes::mdat::write_mdat;
+use write_meta::write_meta;
 
 // ftyp, meta and mdat of a panel whose file is planned, from the start of the output on.
 fn write_file(

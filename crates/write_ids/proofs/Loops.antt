@@ -8,7 +8,7 @@ use native.Mathlib.Omega.{arith}
 use lib.ListN.{length}
 use Rattle.octets.specs.Stores.{Wrote}
 use Rattle.octets.proofs.Stores.{Owes, owes, turn, paid, kept}
-use Rattle.panel.specs.Items.{ids-from}
+use Rattle.heif.specs.Items.{ids-from}
 
 -- one of n
 mul-step : (k n : ℕ) → 0 < n → k * n ≡ k + k * (n - 1)

@@ -6,19 +6,19 @@ ghost use lib.ListN.{length};
 ghost use Rattle.octets.specs.Numbers.{_‖_, be};
 ghost use Rattle.octets.specs.Boxes.{full};
 ghost use Rattle.octets.specs.Stores.{Wrote, Boxed};
-ghost use Rattle.panel.specs.Items.{given};
-ghost use Rattle.panel.specs.Forms.{form-of};
-ghost use Rattle.panel.specs.Iinf.{tile-infes};
-use crate::form::ids_bytes;
-use crate::form::write_item_box;
-use crate::ids::write_id;
+ghost use Rattle.panel.specs.Parts.{given};
+ghost use Rattle.panel.specs.Form.{form-of};
+ghost use Rattle.heif.specs.Iinf.{tile-infes};
 use octets::put;
 use octets::size_of;
 use octets::w8;
 use octets::w16;
-use octets::when;
 use panel::FileForm;
 use panel::WideItemId;
+use panel::part::when;
+use plan_items::form::ids_bytes;
+use write_ids::form::write_item_box;
+use write_ids::write_id;
 
 // What stands behind an item's id: protection index 0, its type, an empty name, the content type.
 fn write_item_type(out: &mut [u8], at: usize, kind: &[u8; 4], content_type: &[u8]) -> usize

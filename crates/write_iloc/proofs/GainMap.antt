@@ -5,12 +5,14 @@ use mathlib.Core.List.{[], _∷_, _++_, flatMap}
 use Prim.Native.Nat.{ℕ, _+_}
 use native.Mathlib.Omega.{arith}
 use Rattle.octets.specs.Numbers.{_‖_}
-use Rattle.panel.specs.Items.{Form, given, gain-id}
-use Rattle.panel.specs.Iloc.{entry, located}
+use Rattle.panel.specs.Form.{Form}
+use Rattle.panel.specs.Parts.{given}
 use Rattle.panel.specs.declared.Shape.{Shape}
-use Rattle.locations.specs.Spans.{spans}
-use Rattle.boxes.specs.Runs.{Shaped}
-use Rattle.locations.proofs.Spans.{entries-append}
+use Rattle.heif.specs.Items.{gain-id}
+use Rattle.heif.specs.Iloc.{entry, located}
+use Rattle.plan_items.specs.Items.{Shaped}
+use Rattle.write_iloc.specs.Spans.{spans}
+use Rattle.write_iloc.proofs.Spans.{entries-append}
 
 pub tone-behind : (f : Form) (s : Shape) (o a b t : ℕ)
     → flatMap (entry f) (located (gain-id s) 0 (spans o (a ∷ b ∷ []))) ++ flatMap (entry f) (located (gain-id s + 2) 0 (spans (o + a + b) (given (s .tone) (t ∷ []))))

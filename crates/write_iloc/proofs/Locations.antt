@@ -11,18 +11,17 @@ use Rattle.octets.specs.Boxes.{boxes}
 use Rattle.octets.proofs.Lists.{cond-mul, flatMap-append, flatMap-one, length-flatMap}
 use Rattle.octets.proofs.Numbers.{length-be}
 use Rattle.octets.proofs.Boxes.{boxes-one}
-use Rattle.panel.specs.Items.{Form, given, colour-grid, alpha-tile, alpha-grid, exif-id, gain-id}
-use Rattle.panel.specs.Iloc.{located, entry, iloc}
-use Rattle.panel.specs.Refusal.{last-id}
+use Rattle.panel.specs.Form.{Form}
+use Rattle.panel.specs.Parts.{given}
 use Rattle.panel.specs.declared.Shape.{Shape}
-use Rattle.panel.proofs.Ids.{length-given}
-use Rattle.panel.proofs.Payloads.{length-entry, length-located}
-use Rattle.length.specs.Size.{iloc-size}
-use Rattle.locations.specs.Spans.{spans, location}
-use Rattle.locations.proofs.Spans.{entries-append, length-spans}
-use Rattle.gain_map.specs.Sizes.{sizes}
-use Rattle.locations.specs.declared.PayloadLengths.{PayloadLengths}
-use Rattle.isobmff.specs.Locations.{other-sizes, placed}
+use Rattle.heif.specs.Items.{colour-grid, alpha-tile, alpha-grid, exif-id, gain-id, last-id}
+use Rattle.heif.specs.Iloc.{located, entry, iloc, iloc-size}
+use Rattle.heif.proofs.Items.{length-given}
+use Rattle.heif.proofs.Iloc.{length-entry, length-located}
+use Rattle.plan_items.specs.declared.payloads.PayloadLengths.{PayloadLengths}
+use Rattle.write_iloc.specs.Spans.{spans, location}
+use Rattle.write_iloc.specs.Locations.{sizes, other-sizes, placed}
+use Rattle.write_iloc.proofs.Spans.{entries-append, length-spans}
 
 -- ---- with Exif and without
 

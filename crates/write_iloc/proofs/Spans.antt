@@ -9,9 +9,9 @@ use lib.ListN.{length, drop, getD}
 use lib.Seq.{drop-cons}
 use Rattle.octets.specs.Numbers.{total}
 use Rattle.octets.proofs.Lists.{flatMap-append}
-use Rattle.panel.specs.Items.{Form}
-use Rattle.panel.specs.Iloc.{Extent, Location, extents, located, entry}
-use Rattle.locations.specs.Spans.{spans, location}
+use Rattle.panel.specs.Form.{Form}
+use Rattle.heif.specs.Iloc.{Extent, Location, extents, located, entry}
+use Rattle.write_iloc.specs.Spans.{spans, location}
 
 pub extents-spans : (at : ℕ) (l : List (List ℕ)) → extents at l ≡ spans at (map length l)
 unfolding spans

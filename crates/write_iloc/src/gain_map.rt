@@ -4,19 +4,20 @@ ghost use mathlib.Core.List.{[], _∷_, flatMap};
 ghost use Prim.Native.Nat.{_+_, _*_, _≤_, _<_};
 ghost use lib.ListN.{length};
 ghost use Rattle.octets.specs.Stores.{Wrote};
-ghost use Rattle.panel.specs.Items.{given, gain-id};
-ghost use Rattle.panel.specs.Forms.{form-of};
-ghost use Rattle.panel.specs.Iloc.{entry, located};
-ghost use Rattle.locations.specs.Spans.{spans};
-ghost use Rattle.boxes.specs.Runs.{Shaped};
-ghost use Rattle.gain_map.specs.Sizes.{sizes};
-use boxes::ids::gain_id;
-use boxes::ids::tmap_id;
-use boxes::ids::xmp_id;
-use locations::PayloadLengths;
-use locations::write_location;
+ghost use Rattle.panel.specs.Parts.{given};
+ghost use Rattle.panel.specs.Form.{form-of};
+ghost use Rattle.heif.specs.Items.{gain-id};
+ghost use Rattle.heif.specs.Iloc.{entry, located};
+ghost use Rattle.plan_items.specs.Items.{Shaped};
+ghost use Rattle.write_iloc.specs.Spans.{spans};
+ghost use Rattle.write_iloc.specs.Locations.{sizes};
+use crate::location::write_location;
 use panel::FileForm;
 use panel::Shape;
+use plan_items::ids::gain_id;
+use plan_items::ids::tmap_id;
+use plan_items::ids::xmp_id;
+use plan_items::payloads::PayloadLengths;
 
 // The tone map's entry.
 fn write_tone_location(

@@ -1,33 +1,35 @@
 // iloc: where each item's payload lies.
+
+pub mod gain_map;
+pub mod location;
+
 ghost use mathlib.Core.Path.{_≡_};
 ghost use mathlib.Core.Bool.{true, cond};
 ghost use mathlib.Core.List.{[], _∷_, flatMap};
 ghost use Prim.Native.Nat.{_+_, _*_, _≤_, _<_};
 ghost use lib.ListN.{length};
 ghost use Rattle.octets.specs.Numbers.{_‖_, be, text, total};
-ghost use Rattle.panel.specs.Refusal.{last-id};
 ghost use Rattle.octets.specs.Stores.{Wrote, Boxed};
-ghost use Rattle.panel.specs.Items.{colour-grid, alpha-tile, alpha-grid, exif-id};
-ghost use Rattle.panel.specs.Forms.{form-of};
-ghost use Rattle.panel.specs.Iloc.{entry, located, iloc};
-ghost use Rattle.length.specs.Size.{iloc-size};
-ghost use Rattle.locations.specs.Spans.{spans, location};
-ghost use Rattle.boxes.specs.Runs.{Shaped};
-ghost use Rattle.isobmff.specs.Locations.{other-sizes, placed};
-use boxes::form::write_count;
-use boxes::form::write_item_box;
-use boxes::ids::alpha_grid_id;
-use boxes::ids::alpha_tile_base;
-use boxes::ids::color_grid_id;
-use boxes::ids::exif_id;
-use checks::shape::last_id;
-use locations::PayloadLengths;
-use locations::write_location;
-use locations::write_tile_locations;
+ghost use Rattle.panel.specs.Form.{form-of};
+ghost use Rattle.heif.specs.Items.{last-id, colour-grid, alpha-tile, alpha-grid, exif-id};
+ghost use Rattle.heif.specs.Iloc.{entry, located, iloc, iloc-size};
+ghost use Rattle.plan_items.specs.Items.{Shaped};
+ghost use Rattle.write_iloc.specs.Spans.{spans, location};
+ghost use Rattle.write_iloc.specs.Locations.{other-sizes, placed};
+use crate::location::write_location;
+use crate::location::write_tile_locations;
 use octets::w16;
 use panel::FileForm;
 use panel::Shape;
 use panel::WideItemId;
+use plan_items::ids::alpha_grid_id;
+use plan_items::ids::alpha_tile_base;
+use plan_items::ids::color_grid_id;
+use plan_items::ids::exif_id;
+use plan_items::ids::last_id;
+use plan_items::payloads::PayloadLengths;
+use write_ids::form::write_count;
+use write_ids::form::write_item_box;
 
 // The colour tiles' entries, and the colour grid's, whose descriptor is the first in idat.
 fn write_color_locations(
@@ -90,7 +92,7 @@ fn write_exif_locations(
 {
     let id = exif_id(s);
     let a = write_location(out, at, form, id, 0, offset, exif);
-    gain_map::location::write_iloc(out, a, form, s, offset + exif, gain)
+    crate::gain_map::write_iloc(out, a, form, s, offset + exif, gain)
 }
 
 // The entries of what lies behind the alpha samples.
@@ -111,7 +113,7 @@ fn write_other_locations(
     if s.exif {
         return write_exif_locations(out, at, form, s, offset, exif, gain);
     }
-    gain_map::location::write_iloc(out, at, form, s, offset, gain)
+    crate::gain_map::write_iloc(out, at, form, s, offset, gain)
 }
 
 // Where the runs of payloads begin: the colour samples, the alpha samples, and what lies behind them.
@@ -133,7 +135,7 @@ fn write_iloc_head(out: &mut [u8], at: usize, form: FileForm, size: u32, s: Shap
 }
 
 // iloc.
-pub(crate) fn write_iloc(
+pub fn write_iloc(
     out: &mut [u8],
     at: usize,
     form: FileForm,

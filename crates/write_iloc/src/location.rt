@@ -4,24 +4,16 @@ ghost use Prim.Native.Nat.{_+_, _*_, _≤_, _<_};
 ghost use lib.ListN.{length};
 ghost use Rattle.octets.specs.Numbers.{total};
 ghost use Rattle.octets.specs.Stores.{Wrote};
-ghost use Rattle.panel.specs.Items.{ordinary};
-ghost use Rattle.panel.specs.Forms.{form-of};
-ghost use Rattle.panel.specs.Iloc.{entry, located};
-ghost use Rattle.locations.specs.Spans.{location, spans};
-use boxes::ids::ordinary_id;
-use boxes::ids::write_ordinary_id;
+ghost use Rattle.panel.specs.Form.{ordinary, form-of};
+ghost use Rattle.heif.specs.Iloc.{entry, located};
+ghost use Rattle.write_iloc.specs.Spans.{location, spans};
 use octets::w16;
 use octets::w32;
 use panel::FileForm;
 use panel::ItemId;
 use panel::WideItemId;
-
-// How many bytes the gain map's payloads have: the sample, the XMP and the tone map, 0 where there is none.
-pub struct PayloadLengths {
-    pub sample: u32,
-    pub xmp: u32,
-    pub tmap: u32,
-}
+use write_ids::ordinary_id;
+use write_ids::write_ordinary_id;
 
 // The entry of an item in the ordinary form: its id, its construction method, and its one extent.
 fn write_ordinary_location(

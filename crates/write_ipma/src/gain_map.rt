@@ -5,45 +5,27 @@ ghost use Prim.Native.Nat.{_+_, _≤_};
 ghost use lib.ListN.{length};
 ghost use Rattle.octets.specs.Numbers.{_‖_};
 ghost use Rattle.octets.specs.Stores.{Wrote};
-ghost use Rattle.panel.specs.Items.{given, gain-id};
-ghost use Rattle.panel.specs.Forms.{form-of};
-ghost use Rattle.panel.specs.Ipma.{_with_, association};
-ghost use Rattle.boxes.specs.Runs.{Narrow, Shaped};
-ghost use Rattle.places.specs.Places.{Narrow-image, Narrow-tone};
-ghost use Rattle.places.specs.Counts.{image-count, tone-count};
-ghost use Rattle.places.specs.Lists.{image-list, tone-list};
-use boxes::association::Run;
-use boxes::association::write_association_head;
-use boxes::association::write_run;
-use boxes::association::write_runs;
-use boxes::ids::gain_id;
-use boxes::ids::tmap_id;
-use gain_positions::ImagePlaces;
-use gain_positions::TonePlaces;
+ghost use Rattle.panel.specs.Parts.{given};
+ghost use Rattle.panel.specs.Form.{form-of};
+ghost use Rattle.heif.specs.Items.{gain-id};
+ghost use Rattle.heif.specs.Ipma.{_with_, association};
+ghost use Rattle.plan_items.specs.Items.{Shaped};
+ghost use Rattle.plan_runs.specs.Runs.{Narrow};
+ghost use Rattle.plan_runs.specs.GainMap.{Narrow-image, Narrow-tone};
+ghost use Rattle.plan_runs.specs.Counts.{image-count, tone-count};
+ghost use Rattle.plan_runs.specs.Lists.{image-list, tone-list};
+use crate::association::write_association_head;
 use panel::FileForm;
 use panel::Shape;
-use places::associations::image_count;
-use places::associations::tone_count;
-
-// The gain image's properties and transforms, without the head of the entry.
-fn write_image_list(out: &mut [u8], at: usize, p: ImagePlaces, irot: Run, imir: Run) -> usize
-    requires { ⌜ at + image-count p irot imir ≤ length (now out) ⌝ }
-    requires { ⌜ Narrow-image p ⌝ }
-    requires { ⌜ Narrow irot ⌝ }
-    requires { ⌜ Narrow imir ⌝ }
-    ensures { λ r. ⌜ Wrote (now (out .entry)) at (image-count p irot imir) (image-list p irot imir) (now (out .exit)) r ⌝ }
-{
-    let hvcc = p.hvcc;
-    let ispe = p.ispe;
-    let pixi = p.pixi;
-    let auxc = p.auxc;
-    let colr = p.colr;
-    let a = write_run(out, at, hvcc, true);
-    let b = write_runs(out, a, ispe, pixi, auxc, false);
-    let c = write_run(out, b, colr, false);
-    let d = write_run(out, c, irot, true);
-    write_run(out, d, imir, true)
-}
+use plan_items::ids::gain_id;
+use plan_items::ids::tmap_id;
+use plan_runs::Run;
+use plan_runs::counts::image_count;
+use plan_runs::counts::tone_count;
+use plan_runs::gain_map::ImagePlaces;
+use plan_runs::gain_map::TonePlaces;
+use write_ipma_lists::gain_map::write_image_list;
+use write_ipma_lists::run::write_runs;
 
 // The gain image's entry, where there is one.
 fn write_image_association(

@@ -1,37 +1,41 @@
 // ipma: which properties each item has.
+
+pub mod association;
+pub mod gain_map;
+
 ghost use mathlib.Core.Path.{_≡_};
 ghost use mathlib.Core.List.{[], _∷_, flatMap};
 ghost use Prim.Native.Nat.{_+_, _≤_};
 ghost use lib.ListN.{length};
 ghost use Rattle.octets.specs.Stores.{Wrote, Boxed};
-ghost use Rattle.panel.specs.Forms.{form-of};
-ghost use Rattle.panel.specs.Ipma.{association, associations, ipma};
-ghost use Rattle.length.specs.Properties.{associated-items};
-ghost use Rattle.places.specs.Roles.{its-of, Narrow-places};
-ghost use Rattle.places.specs.Counts.{ipma-bytes, colour-entries-size, alpha-entries-size};
-ghost use Rattle.boxes.specs.Runs.{Shaped};
-ghost use Rattle.places.specs.Places.{Narrow-colour, Narrow-alpha, Narrow-options};
-ghost use Rattle.places.specs.Lists.{colour-entries, alpha-entries};
-use boxes::association::write_alpha_tile_associations;
-use boxes::association::write_association_head;
-use boxes::association::write_color_tile_associations;
-use boxes::form::write_item_box;
-use boxes::ids::alpha_grid_id;
-use boxes::ids::alpha_tile_base;
-use boxes::ids::color_grid_id;
-use grid_lists::write_alpha_grid_list;
-use grid_lists::write_color_grid_list;
+ghost use Rattle.panel.specs.Form.{form-of};
+ghost use Rattle.heif.specs.Ipma.{association, associations, ipma, associated-items};
+ghost use Rattle.plan_items.specs.Items.{Shaped};
+ghost use Rattle.plan_runs.specs.Counts.{colour-entries-size, alpha-entries-size};
+ghost use Rattle.plan_runs.specs.Pictures.{Narrow-colour, Narrow-alpha, Narrow-options};
+ghost use Rattle.plan_runs.specs.Lists.{colour-entries, alpha-entries};
+ghost use Rattle.plan_positions.specs.Roles.{its-of, Narrow-places};
+ghost use Rattle.plan_positions.specs.Counts.{ipma-bytes};
+use crate::association::write_alpha_tile_associations;
+use crate::association::write_association_head;
+use crate::association::write_color_tile_associations;
 use octets::w32;
-use octets::when;
 use panel::FileForm;
 use panel::Shape;
 use panel::WideItemId;
-use places::Places;
-use places::associations::alpha_grid_count;
-use places::associations::color_grid_count;
-use places::pictures::AlphaPlaces;
-use places::pictures::ColorPlaces;
-use places::pictures::OptionPlaces;
+use panel::part::when;
+use plan_items::ids::alpha_grid_id;
+use plan_items::ids::alpha_tile_base;
+use plan_items::ids::color_grid_id;
+use plan_positions::Places;
+use plan_runs::counts::alpha_grid_count;
+use plan_runs::counts::color_grid_count;
+use plan_runs::pictures::AlphaPlaces;
+use plan_runs::pictures::ColorPlaces;
+use plan_runs::pictures::OptionPlaces;
+use write_ids::form::write_item_box;
+use write_ipma_lists::grid::write_alpha_grid_list;
+use write_ipma_lists::grid::write_color_grid_list;
 
 // The entries of the colour picture: its tiles with hvcC, ispe and colr, all essential, and its grid.
 fn write_color_associations(
@@ -119,5 +123,5 @@ pub fn write_ipma(
     let b = w32(out, a, associated_items(s));
     let c = write_color_associations(out, b, form, s, color, options);
     let d = write_alpha_associations(out, c, form, s, color, alpha, options);
-    gain_map::association::write_ipma(out, d, form, s, image, tone, irot, imir)
+    crate::gain_map::write_ipma(out, d, form, s, image, tone, irot, imir)
 }

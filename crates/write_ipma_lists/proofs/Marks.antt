@@ -5,15 +5,17 @@ use mathlib.Core.List.{List, [], _∷_, _++_, append-assoc, map, flatMap}
 use Prim.Native.Nat.{ℕ, suc, _+_, _≤_}
 use native.Mathlib.Nat.{zero-add}
 use native.Mathlib.Omega.{arith}
-use lib.ListN.{length, length-append, length-map}
+use lib.ListN.{length, length-append}
 use Rattle.octets.specs.Numbers.{_‖_, be}
 use Rattle.octets.proofs.Lists.{flatMap-one}
 use Rattle.octets.proofs.Numbers.{be-one}
-use Rattle.panel.specs.Items.{Form, ids-from}
-use Rattle.panel.specs.Ipma.{essential, _with_, association}
-use Rattle.panel.proofs.Ids.{length-ids-from}
-use Rattle.boxes.specs.Runs.{places, marked}
-use Rattle.boxes.specs.declared.association.Run.{Run}
+use Rattle.panel.specs.Form.{Form}
+use Rattle.heif.specs.Items.{ids-from}
+use Rattle.heif.specs.Ipma.{essential, _with_, association}
+use Rattle.plan_runs.specs.Runs.{places}
+use Rattle.plan_runs.specs.declared.Run.{Run}
+use Rattle.plan_runs.proofs.Runs.{length-essential}
+use Rattle.write_ipma_lists.specs.Marks.{marked}
 
 -- a run of none, one or two positions
 module _ (mark first : ℕ) {count : ℕ} where
@@ -39,12 +41,6 @@ unmarked (k ∷ l) = λ i. zero-add k i ∷ unmarked l i
 pub by-mark : (e : Bool) {m : ℕ} (l : List ℕ) → m ≡ cond e 128 0 → map (λ k. m + k) l ≡ marked e l
 by-mark true l h = ap (λ (m : ℕ). map (λ k. m + k) l) h
 by-mark false l h = ap (λ (m : ℕ). map (λ k. m + k) l) h ∙ unmarked l
-
-pub length-places : (r : Run) → length (places r) ≡ r .count
-length-places r = length-ids-from (r .first .0) (r .count)
-
-pub length-essential : (r : Run) → length (essential (places r)) ≡ r .count
-length-essential r = length-map (places r) (λ k. 128 + k) ∙ length-places r
 
 -- how many positions two runs have, and three
 pub count-two : (a b : Run) → a .count + b .count ≡ length (essential (places a) ‖ essential (places b))

@@ -1,15 +1,15 @@
-// What a grid is associated with: the positions of its properties in ipma, without the head of its entry.
+// What a grid is associated with.
 ghost use Prim.Native.Nat.{_+_, _≤_};
 ghost use lib.ListN.{length};
 ghost use Rattle.octets.specs.Stores.{Wrote};
-ghost use Rattle.places.specs.Places.{Narrow-colour, Narrow-alpha, Narrow-options};
-ghost use Rattle.places.specs.Counts.{option-count, colour-grid-count, alpha-grid-count};
-ghost use Rattle.places.specs.Lists.{option-list, colour-grid-list, alpha-grid-list};
-use boxes::association::write_run;
-use boxes::association::write_runs;
-use places::pictures::AlphaPlaces;
-use places::pictures::ColorPlaces;
-use places::pictures::OptionPlaces;
+ghost use Rattle.plan_runs.specs.Pictures.{Narrow-colour, Narrow-alpha, Narrow-options};
+ghost use Rattle.plan_runs.specs.Counts.{option-count, colour-grid-count, alpha-grid-count};
+ghost use Rattle.plan_runs.specs.Lists.{option-list, colour-grid-list, alpha-grid-list};
+use crate::run::write_run;
+use crate::run::write_runs;
+use plan_runs::pictures::AlphaPlaces;
+use plan_runs::pictures::ColorPlaces;
+use plan_runs::pictures::OptionPlaces;
 
 // The colour grid's properties that may be absent: the second colr, clli and the transforms, which come last and are essential.
 fn write_option_list(out: &mut [u8], at: usize, o: OptionPlaces) -> usize

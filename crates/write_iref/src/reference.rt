@@ -5,16 +5,16 @@ ghost use lib.ListN.{length};
 ghost use Rattle.octets.specs.Numbers.{_‖_, be};
 ghost use Rattle.octets.specs.Boxes.{box-of};
 ghost use Rattle.octets.specs.Stores.{Boxed};
-ghost use Rattle.panel.specs.Items.{ids-from};
-ghost use Rattle.panel.specs.Forms.{form-of};
-ghost use Rattle.panel.specs.Iref.{reference};
-use crate::form::ids_bytes;
-use crate::ids::write_id;
-use crate::ids::write_ids;
+ghost use Rattle.panel.specs.Form.{form-of};
+ghost use Rattle.heif.specs.Items.{ids-from};
+ghost use Rattle.heif.specs.Iref.{reference};
 use octets::w16;
 use octets::write_box;
 use panel::FileForm;
 use panel::WideItemId;
+use plan_items::form::ids_bytes;
+use write_ids::write_id;
+use write_ids::write_ids;
 
 // From one item to another.
 pub fn write_ref(

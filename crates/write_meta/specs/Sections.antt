@@ -5,22 +5,23 @@ use Prim.Native.Nat.{ℕ, _+_, _<_}
 use Rattle.octets.specs.Numbers.{_‖_}
 use Rattle.octets.specs.Boxes.{Box, box, boxes}
 use Rattle.panel.specs.Panel.{Panel}
-use Rattle.panel.specs.Items.{Form}
-use Rattle.panel.specs.Iloc.{Location, iloc}
-use Rattle.panel.specs.Iinf.{iinf}
-use Rattle.panel.specs.Iref.{iref}
-use Rattle.panel.specs.Ipco.{ipco}
-use Rattle.panel.specs.Ipma.{associations, ipma}
-use Rattle.panel.specs.File.{hdlr, pitm, grpl, idat}
+use Rattle.panel.specs.Form.{Form}
 use Rattle.panel.specs.declared.GridDims.{GridDims}
 use Rattle.panel.specs.declared.Shape.{Shape}
-use Rattle.length.specs.Properties.{ipco-size}
-use Rattle.length.specs.Size.{iloc-size, iinf-size, iref-size, grpl-size, idat-size}
-use Rattle.boxes.specs.Runs.{Shaped}
-use Rattle.offsets.specs.declared.Layout.{Layout}
-use Rattle.places.specs.Roles.{its-of}
-use Rattle.places.specs.Counts.{ipma-bytes}
-use Rattle.places.specs.declared.Places.{Places}
+use Rattle.heif.specs.Iloc.{Location, iloc, iloc-size}
+use Rattle.heif.specs.Iinf.{iinf, iinf-size}
+use Rattle.heif.specs.Iref.{iref, iref-size}
+use Rattle.heif.specs.Ipco.{ipco, ipco-size}
+use Rattle.heif.specs.Ipma.{associations, ipma}
+use Rattle.heif.specs.Hdlr.{hdlr}
+use Rattle.heif.specs.Pitm.{pitm}
+use Rattle.heif.specs.Grpl.{grpl, grpl-size}
+use Rattle.heif.specs.Idat.{idat, idat-size}
+use Rattle.plan_items.specs.Items.{Shaped}
+use Rattle.plan_positions.specs.Roles.{its-of}
+use Rattle.plan_positions.specs.Counts.{ipma-bytes}
+use Rattle.plan_positions.specs.declared.Places.{Places}
+use Rattle.plan_layout.specs.declared.Layout.{Layout}
 
 -- hdlr to iref
 abbrev pub item-boxes : Form → Shape → List Location → List Box
@@ -43,19 +44,16 @@ iprp-of f p s y = box "iprp" (boxes (ipco p ∷ ipma f (associations s (its-of y
 abbrev pub iprp-bytes : Form → Panel → Shape → Places → ℕ
 iprp-bytes f p s y = 8 + ((8 + ipco-size p) + ipma-bytes f s y)
 
-abbrev pub idat-bytes : GridDims → ℕ
-idat-bytes d = 8 + idat-size d
-
 -- iprp to idat
 abbrev pub property-boxes : Form → Panel → Shape → Places → GridDims → List Box
 property-boxes f p s y d = iprp-of f p s y ∷ grpl s ‖ idat d ∷ []
 
 abbrev pub property-boxes-size : Form → Panel → Shape → Places → GridDims → ℕ
-property-boxes-size f p s y d = iprp-bytes f p s y + (grpl-size s + idat-bytes d)
+property-boxes-size f p s y d = iprp-bytes f p s y + (grpl-size s + (8 + idat-size d))
 
 pub record Property-sizes (f : Form) (p : Panel) (y : Layout) (z : Places) (d : GridDims) : Type 0 where
   pub ipco : y .ipco ≡ 8 + ipco-size p
   pub ipma : y .ipma ≡ ipma-bytes f (y .shape) z
   pub iprp : y .iprp ≡ iprp-bytes f p (y .shape) z
-  pub idat : y .idat ≡ idat-bytes d
+  pub idat : y .idat ≡ 8 + idat-size d
   pub short : 8 + ipco-size p < 4294967296

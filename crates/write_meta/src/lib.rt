@@ -6,43 +6,30 @@ ghost use lib.ListN.{length};
 ghost use Rattle.octets.specs.Numbers.{_‖_, total};
 ghost use Rattle.octets.specs.Boxes.{full, boxes};
 ghost use Rattle.octets.specs.Stores.{Boxed};
-ghost use Rattle.panel.specs.Forms.{form-of};
+ghost use Rattle.panel.specs.Form.{form-of};
 ghost use Rattle.panel.specs.Of.{panel-of};
-ghost use Rattle.panel.specs.File.{idat};
-ghost use Rattle.grids.specs.Descriptors.{Sided};
-ghost use Rattle.isobmff.specs.Locations.{other-sizes, placed};
-ghost use Rattle.isobmff.specs.Parts.{lent-props};
-ghost use Rattle.places.specs.Roles.{Narrow-places};
-ghost use Rattle.isobmff.specs.Sections.{item-boxes, item-boxes-size, Item-sizes, iprp-of, iprp-bytes, idat-bytes, property-boxes, property-boxes-size, Property-sizes};
-use crate::location::Offsets;
-use crate::location::write_iloc;
-use crate::property::write_ipco;
-use boxes::hdlr::write_hdlr;
-use boxes::ids::color_grid_id;
-use boxes::pitm::write_pitm;
-use grids::write_descriptor;
-use ipma::write_ipma;
-use items::write_iinf;
-use items::write_iref;
+ghost use Rattle.panel.specs.Lent.{lent-props};
+ghost use Rattle.plan_positions.specs.Roles.{Narrow-places};
+ghost use Rattle.write_boxes.specs.Idat.{Sided};
+ghost use Rattle.write_iloc.specs.Locations.{other-sizes, placed};
+ghost use Rattle.write_meta.specs.Sections.{item-boxes, item-boxes-size, Item-sizes, iprp-of, iprp-bytes, property-boxes, property-boxes-size};
+ghost use Rattle.write_meta.specs.Sections.{Property-sizes};
 use octets::write_box;
 use octets::write_fullbox;
-use offsets::Layout;
 use panel::FileForm;
-use panel::GridDims;
 use panel::Panel;
-use places::Places;
-
-// idat: the descriptor of each grid.
-fn write_idat(out: &mut [u8], at: usize, size: u32, d: GridDims) -> usize
-    requires { ⌜ at + idat-bytes d ≤ length (now out) ⌝ }
-    requires { ⌜ Sided d ⌝ }
-    requires { ⌜ size ≡ idat-bytes d ⌝ }
-    ensures { λ r. ⌜ Boxed (now (out .entry)) at (idat-bytes d) (idat d ∷ []) (now (out .exit)) r ⌝ }
-{
-    let a = write_box(out, at, size, b"idat");
-    let b = write_descriptor(out, a, d);
-    write_descriptor(out, b, d)
-}
+use plan_items::ids::color_grid_id;
+use plan_layout::Layout;
+use plan_positions::Places;
+use write_boxes::hdlr::write_hdlr;
+use write_boxes::idat::write_idat;
+use write_boxes::pitm::write_pitm;
+use write_iinf::write_iinf;
+use write_iloc::Offsets;
+use write_iloc::write_iloc;
+use write_ipma::write_ipma;
+use write_iref::write_iref;
+use write_properties::ipco::write_ipco;
 
 // hdlr, pitm, iloc, iinf and iref.
 fn write_item_boxes(
@@ -161,7 +148,7 @@ fn write_property_boxes(
         gain_hvcc,
         alternate_icc,
     );
-    let b = gain_items::write_groups(out, a, s);
+    let b = write_boxes::grpl::write_groups(out, a, s);
     write_idat(out, b, y.idat, dims)
 }
 

@@ -5,8 +5,7 @@ use Prim.Native.Nat.{ℕ, zero, suc}
 use native.Mathlib.Omega.{arith}
 use Rattle.octets.specs.Numbers.{be}
 use Rattle.octets.specs.Boxes.{Box, box, optional}
-use Rattle.panel.specs.Ipco.{irot-payload}
-use Rattle.length.specs.Properties.{irot-size}
+use Rattle.heif.specs.Irot.{irot-payload, irot-size}
 
 -- the boxes of so many steps are these, of so many bytes
 pub record Turned (steps : ℕ) (l : List Box) (n : ℕ) : Type 0 where

@@ -1,7 +1,7 @@
 // colr: colour by code points (nclx) or by an ICC profile (prof).
 ghost use mathlib.Core.Path.{_≡_};
 ghost use mathlib.Core.Bool.{cond};
-ghost use mathlib.Core.Option.{none};
+ghost use mathlib.Core.Option.{none, some};
 ghost use mathlib.Core.List.{[], _∷_};
 ghost use Prim.Native.Nat.{_+_, _≤_, _<_};
 ghost use lib.ListN.{length};
@@ -9,8 +9,8 @@ ghost use Rattle.octets.specs.Numbers.{_‖_, text};
 ghost use Rattle.octets.specs.Boxes.{box, optional};
 ghost use Rattle.octets.specs.Stores.{Boxed};
 ghost use Rattle.panel.specs.Of.{cicp-of, part, alternate-of};
-ghost use Rattle.panel.specs.Ipco.{nclx-payload, first-colr, profile, second-colr, alternate-colrs, alternates};
-ghost use Rattle.length.specs.Properties.{first-colr-size, profile-size, second-colr-size, stated-size, alternates-size};
+ghost use Rattle.heif.specs.Colr.{nclx-payload, first-colr, profile, second-colr, alternate-colrs, alternates, first-colr-size, nclx-size, profile-size};
+ghost use Rattle.heif.specs.Colr.{second-colr-size, stated-size, alternates-size};
 use octets::put;
 use octets::size_of;
 use octets::w8;
@@ -20,7 +20,7 @@ use panel::color::Cicp;
 use panel::color::ColorMetadata;
 use panel::color::MaybeCicp;
 use panel::color::MaybeColorMetadata;
-use panel::color::Part;
+use panel::part::Part;
 
 // The byte of the full range.
 fn range_byte(full_range: bool) -> u8
@@ -31,8 +31,8 @@ fn range_byte(full_range: bool) -> u8
 
 // By code points.
 pub fn write_colr_nclx(out: &mut [u8], at: usize, enc: Cicp) -> usize
-    requires { ⌜ at + 19 ≤ length (now out) ⌝ }
-    ensures { λ r. ⌜ Boxed (now (out .entry)) at 19 (box "colr" (nclx-payload enc) ∷ []) (now (out .exit)) r ⌝ }
+    requires { ⌜ at + nclx-size ≤ length (now out) ⌝ }
+    ensures { λ r. ⌜ Boxed (now (out .entry)) at nclx-size (box "colr" (nclx-payload enc) ∷ []) (now (out .exit)) r ⌝ }
 {
     let primaries = enc.primaries;
     let transfer = enc.transfer;
@@ -47,9 +47,9 @@ pub fn write_colr_nclx(out: &mut [u8], at: usize, enc: Cicp) -> usize
 
 // By a profile.
 fn write_colr_icc(out: &mut [u8], at: usize, icc: &[u8]) -> usize
-    requires { ⌜ at + (12 + length (now icc)) ≤ length (now out) ⌝ }
-    requires { ⌜ 12 + length (now icc) < 4294967296 ⌝ }
-    ensures { λ r. ⌜ Boxed (now (out .entry)) at (12 + length (now (icc .entry))) (box "colr" (text "prof" ‖ now (icc .entry)) ∷ []) (now (out .exit)) r ⌝ }
+    requires { ⌜ at + profile-size (some (now icc)) ≤ length (now out) ⌝ }
+    requires { ⌜ profile-size (some (now icc)) < 4294967296 ⌝ }
+    ensures { λ r. ⌜ Boxed (now (out .entry)) at (profile-size (some (now (icc .entry)))) (box "colr" (text "prof" ‖ now (icc .entry)) ∷ []) (now (out .exit)) r ⌝ }
 {
     let a = write_box(out, at, size_of(12, icc.len()), b"colr");
     let b = put(out, a, b"prof");

@@ -2,30 +2,29 @@
 ghost use mathlib.Core.List.{[], _∷_};
 ghost use Prim.Native.Nat.{_+_, _≤_, _<_};
 ghost use lib.ListN.{length};
-ghost use Rattle.octets.specs.Boxes.{box};
 ghost use Rattle.octets.specs.Stores.{Boxed};
-ghost use Rattle.panel.specs.Types.{bits};
-ghost use Rattle.panel.specs.Of.{part, alternate-of};
-ghost use Rattle.panel.specs.Ipco.{nclx-payload, ispe, pixi, auxC, alternates, tone-slots, gain-slots, held};
-ghost use Rattle.length.specs.Properties.{alternates-size, image-properties-size, tone-properties-size, gain-properties-size};
-ghost use Rattle.gain_map.specs.Parts.{with-properties};
+ghost use Rattle.panel.specs.Of.{part, alternate-of, with-properties};
+ghost use Rattle.heif.specs.Colr.{alternates, alternates-size};
+ghost use Rattle.heif.specs.Ispe.{ispe, ispe-size};
+ghost use Rattle.heif.specs.Pixi.{pixi, pixi-size};
+ghost use Rattle.heif.specs.Ipco.{image-slots, tone-slots, gain-slots, held, image-properties-size, tone-properties-size, gain-properties-size};
+use crate::auxc::write_auxc;
+use crate::colr::write_alternate_colr;
+use crate::colr::write_colr_nclx;
+use crate::hvcc::write_hvcc;
+use crate::ispe::write_ispe;
+use crate::pixi::write_pixi_color;
+use crate::pixi::write_pixi_mono;
 use panel::color::MaybeColorMetadata;
-use panel::color::Part;
 use panel::gain_map::EncodedGainMap;
 use panel::gain_map::MaybeGainMap;
-use properties::auxc::write_auxc;
-use properties::colr::write_alternate_colr;
-use properties::colr::write_colr_nclx;
-use properties::hvcc::write_hvcc;
-use properties::ispe::write_ispe;
-use properties::pixi::write_pixi_color;
-use properties::pixi::write_pixi_mono;
+use panel::part::Part;
 
 // hvcC, ispe, pixi, auxC and colr of the gain image.
 fn write_image_properties(out: &mut [u8], at: usize, g: EncodedGainMap, hvcc: &[u8]) -> usize
     requires { ⌜ at + image-properties-size (now hvcc) ≤ length (now out) ⌝ }
     requires { ⌜ image-properties-size (now hvcc) < 4294967296 ⌝ }
-    ensures { λ r. ⌜ Boxed (now (out .entry)) at (image-properties-size (now (hvcc .entry))) (box "hvcC" (now (hvcc .entry)) ∷ ispe (g .width) (g .height) ∷ pixi 1 (bits (g .«bit_depth»)) ∷ auxC "urn:com:apple:photo:2020:aux:hdrgainmap" ∷ box "colr" (nclx-payload (g .cicp)) ∷ []) (now (out .exit)) r ⌝ }
+    ensures { λ r. ⌜ Boxed (now (out .entry)) at (image-properties-size (now (hvcc .entry))) (held (image-slots (now (hvcc .entry)) (g .width) (g .height) (g .«bit_depth») (g .cicp))) (now (out .exit)) r ⌝ }
 {
     let depth = g.bit_depth;
     let cicp = g.cicp;
@@ -46,9 +45,9 @@ fn write_tone_boxes(
     alternate: MaybeColorMetadata,
     icc: &[u8],
 ) -> usize
-    requires { ⌜ at + (36 + alternates-size (alternate-of alternate (now icc))) ≤ length (now out) ⌝ }
-    requires { ⌜ 36 + alternates-size (alternate-of alternate (now icc)) < 4294967296 ⌝ }
-    ensures { λ r. ⌜ Boxed (now (out .entry)) at (36 + alternates-size (alternate-of alternate (now (icc .entry)))) (ispe w h ∷ pixi 3 depth ∷ alternates (alternate-of alternate (now (icc .entry)))) (now (out .exit)) r ⌝ }
+    requires { ⌜ at + (ispe-size + pixi-size 3 + alternates-size (alternate-of alternate (now icc))) ≤ length (now out) ⌝ }
+    requires { ⌜ ispe-size + pixi-size 3 + alternates-size (alternate-of alternate (now icc)) < 4294967296 ⌝ }
+    ensures { λ r. ⌜ Boxed (now (out .entry)) at (ispe-size + pixi-size 3 + alternates-size (alternate-of alternate (now (icc .entry)))) (ispe w h ∷ pixi 3 depth ∷ alternates (alternate-of alternate (now (icc .entry)))) (now (out .exit)) r ⌝ }
 {
     let a = write_ispe(out, at, w, h);
     let b = write_pixi_color(out, a, depth);

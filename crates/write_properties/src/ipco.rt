@@ -7,11 +7,22 @@ ghost use lib.Dec.{eqb};
 ghost use lib.ListN.{length};
 ghost use Rattle.octets.specs.Stores.{Boxed};
 ghost use Rattle.panel.specs.Types.{bits, irot-steps};
-ghost use Rattle.panel.specs.Of.{colour-of, light-of, panel-of};
-ghost use Rattle.panel.specs.Ipco.{pixi, tone-ispe, gain-slots, held, ipco};
-ghost use Rattle.length.specs.Properties.{colour-properties-size, alpha-properties-size, optional-properties-size, gain-properties-size, ipco-size};
-ghost use Rattle.gain_map.specs.Parts.{with-properties};
-ghost use Rattle.isobmff.specs.Parts.{lent-props, colour-properties, alpha-properties, optional-properties};
+ghost use Rattle.panel.specs.Of.{colour-of, light-of, panel-of, with-properties};
+ghost use Rattle.panel.specs.Lent.{lent-props};
+ghost use Rattle.heif.specs.Pixi.{pixi};
+ghost use Rattle.heif.specs.Ispe.{tone-ispe};
+ghost use Rattle.heif.specs.Ipco.{colour-slots, alpha-slots, option-slots, gain-slots, held, ipco};
+ghost use Rattle.heif.specs.Ipco.{colour-properties-size, alpha-properties-size, optional-properties-size, gain-properties-size, ipco-size};
+use crate::auxc::write_auxc;
+use crate::clli::write_clli;
+use crate::colr::write_colr;
+use crate::colr::write_secondary_colr;
+use crate::hvcc::write_hvcc;
+use crate::imir::write_imir;
+use crate::irot::write_irot;
+use crate::ispe::write_ispe;
+use crate::pixi::write_pixi_color;
+use crate::pixi::write_pixi_mono;
 use octets::write_box;
 use panel::GridDims;
 use panel::Panel;
@@ -20,16 +31,6 @@ use panel::fmt::BitDepth;
 use panel::gain_map::MaybeGainMap;
 use panel::metadata::Metadata;
 use panel::metadata::Orientation;
-use properties::auxc::write_auxc;
-use properties::clli::write_clli;
-use properties::colr::write_colr;
-use properties::colr::write_secondary_colr;
-use properties::hvcc::write_hvcc;
-use properties::imir::write_imir;
-use properties::irot::write_irot;
-use properties::ispe::write_ispe;
-use properties::pixi::write_pixi_color;
-use properties::pixi::write_pixi_mono;
 
 // hvcC of the colour tiles, ispe of a tile and of the whole picture, colr, and pixi of three channels.
 fn write_color_properties(
@@ -43,7 +44,7 @@ fn write_color_properties(
 ) -> usize
     requires { ⌜ at + colour-properties-size (now hvcc) (colour-of color (now icc)) ≤ length (now out) ⌝ }
     requires { ⌜ colour-properties-size (now hvcc) (colour-of color (now icc)) < 4294967296 ⌝ }
-    ensures { λ r. ⌜ Boxed (now (out .entry)) at (colour-properties-size (now (hvcc .entry)) (colour-of color (now (icc .entry)))) (colour-properties dims depth (now (hvcc .entry)) (colour-of color (now (icc .entry)))) (now (out .exit)) r ⌝ }
+    ensures { λ r. ⌜ Boxed (now (out .entry)) at (colour-properties-size (now (hvcc .entry)) (colour-of color (now (icc .entry)))) (held (colour-slots dims depth (now (hvcc .entry)) (colour-of color (now (icc .entry))))) (now (out .exit)) r ⌝ }
 {
     let a = write_hvcc(out, at, hvcc);
     let b = write_ispe(out, a, dims.tile_w, dims.tile_h);
@@ -56,7 +57,7 @@ fn write_color_properties(
 fn write_alpha_properties(out: &mut [u8], at: usize, depth: BitDepth, hvcc: &[u8]) -> usize
     requires { ⌜ at + alpha-properties-size (now hvcc) ≤ length (now out) ⌝ }
     requires { ⌜ alpha-properties-size (now hvcc) < 4294967296 ⌝ }
-    ensures { λ r. ⌜ Boxed (now (out .entry)) at (alpha-properties-size (now (hvcc .entry))) (alpha-properties depth (now (hvcc .entry))) (now (out .exit)) r ⌝ }
+    ensures { λ r. ⌜ Boxed (now (out .entry)) at (alpha-properties-size (now (hvcc .entry))) (held (alpha-slots depth (now (hvcc .entry)))) (now (out .exit)) r ⌝ }
 {
     let a = write_hvcc(out, at, hvcc);
     let b = write_pixi_mono(out, a, depth.bits());
@@ -73,7 +74,7 @@ fn write_optional_properties(
 ) -> usize
     requires { ⌜ at + optional-properties-size (colour-of color (now icc)) (metadata .orientation) (light-of (metadata .«content_light_level»)) ≤ length (now out) ⌝ }
     requires { ⌜ optional-properties-size (colour-of color (now icc)) (metadata .orientation) (light-of (metadata .«content_light_level»)) < 4294967296 ⌝ }
-    ensures { λ r. ⌜ Boxed (now (out .entry)) at (optional-properties-size (colour-of color (now (icc .entry))) (metadata .orientation) (light-of (metadata .«content_light_level»))) (optional-properties (colour-of color (now (icc .entry))) metadata) (now (out .exit)) r ⌝ }
+    ensures { λ r. ⌜ Boxed (now (out .entry)) at (optional-properties-size (colour-of color (now (icc .entry))) (metadata .orientation) (light-of (metadata .«content_light_level»))) (held (option-slots (colour-of color (now (icc .entry))) (metadata .orientation) (light-of (metadata .«content_light_level»)))) (now (out .exit)) r ⌝ }
 {
     let orientation = metadata.orientation;
     let light = metadata.content_light_level;
@@ -129,11 +130,11 @@ fn write_gain_properties(
     let w = tone_side(turned, dims.full_h, dims.full_w);
     let h = tone_side(turned, dims.full_w, dims.full_h);
     let bits = tone_depth(depth);
-    gain_map::property::write_ipco(out, at, gain, w, h, bits, hvcc, icc)
+    crate::gain_map::write_ipco(out, at, gain, w, h, bits, hvcc, icc)
 }
 
 // ipco.
-pub(crate) fn write_ipco(
+pub fn write_ipco(
     out: &mut [u8],
     at: usize,
     size: u32,

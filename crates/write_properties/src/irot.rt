@@ -3,8 +3,7 @@ ghost use Prim.Native.Nat.{_+_, _≤_};
 ghost use lib.ListN.{length};
 ghost use Rattle.octets.specs.Boxes.{optional};
 ghost use Rattle.octets.specs.Stores.{Boxed};
-ghost use Rattle.panel.specs.Ipco.{irot-payload};
-ghost use Rattle.length.specs.Properties.{irot-size};
+ghost use Rattle.heif.specs.Irot.{irot-payload, irot-size};
 use octets::w8;
 use octets::write_box;
 

@@ -1,7 +1,7 @@
 -- A copy, byte by byte: so far the front of the source is laid down.
-use native.Mathlib.Omega.{arith}
-use Prim.Native.Nat.{_≤_, _-_}
 use mathlib.Core.Path.{_≡_, refl, _∙_}
+use Prim.Native.Nat.{_≤_, _-_}
+use native.Mathlib.Omega.{arith}
 use lib.ListN.{length, take}
 use lib.Seq.{take-length}
 use Rattle.octets.specs.Stores.{lay}

@@ -1,6 +1,6 @@
 -- The upper byte and the lower byte.
-use borrow.Author.Needs.{needs}
 use mathlib.Core.Path.{refl}
+use borrow.Author.Needs.{needs}
 use Rattle.octets.proofs.Numbers.{be-mod}
 use Rattle.octets.proofs.Stores.{halves}
 use Rattle.octets.proofs.w16.Statement.{statement}

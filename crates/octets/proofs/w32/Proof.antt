@@ -1,6 +1,6 @@
 -- The upper half and the lower half.
-use borrow.Author.Needs.{needs}
 use mathlib.Core.Path.{refl}
+use borrow.Author.Needs.{needs}
 use Rattle.octets.proofs.Numbers.{be-mod}
 use Rattle.octets.proofs.Stores.{halves}
 use Rattle.octets.proofs.w32.Statement.{statement}

@@ -1,8 +1,8 @@
 -- One store.
-use borrow.Author.Needs.{needs}
-use native.Mathlib.Omega.{arith}
-use Prim.Native.Nat.{_/_, _%_}
 use mathlib.Core.Path.{_≡_, refl}
+use Prim.Native.Nat.{_/_, _%_}
+use native.Mathlib.Omega.{arith}
+use borrow.Author.Needs.{needs}
 use Rattle.octets.specs.Stores.{lay}
 use Rattle.octets.proofs.w8.Statement.{statement}
 use Rattle.octets.proofs.w8.Tie as tie

@@ -1,7 +1,7 @@
 -- The size and the type.
-use borrow.Author.Needs.{needs}
-use native.Mathlib.Omega.{arith}
 use mathlib.Core.Path.{refl}
+use native.Mathlib.Omega.{arith}
+use borrow.Author.Needs.{needs}
 use Rattle.octets.proofs.Stores.{_▹_, told}
 use Rattle.octets.proofs.write_box.Statement.{statement}
 use Rattle.octets.proofs.write_box.Tie as tie

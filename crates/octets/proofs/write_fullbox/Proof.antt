@@ -1,6 +1,6 @@
 -- The head of a box, the version, and the flags in two parts.
-use borrow.Author.Needs.{needs}
 use mathlib.Core.Path.{refl}
+use borrow.Author.Needs.{needs}
 use Rattle.octets.proofs.Numbers.{be-mod}
 use Rattle.octets.proofs.Stores.{_▹_, told, halves}
 use Rattle.octets.proofs.write_fullbox.Statement.{statement}

@@ -1,11 +1,11 @@
 -- Code by code: the chain of the definition goes on where the code names a value, and ends where it does not.
-use borrow.Author.Needs.{needs}
 use mathlib.Core.Path.{refl}
+use borrow.Author.Needs.{needs}
 use Rattle.panel.specs.Types.{maybe-primaries, maybe-transfer, maybe-matrix}
-use Rattle.codes.specs.Codes.{maybe-bool, cicp-named}
-use Rattle.codes.proofs.Chain.{goes-on, ends, so}
-use Rattle.codes.proofs.cicp_named.Statement.{statement}
-use Rattle.codes.proofs.cicp_named.Tie as tie
+use Rattle.panel_codes.specs.Codes.{maybe-bool, cicp-named}
+use Rattle.panel_codes.proofs.Chain.{goes-on, ends, so}
+use Rattle.panel_codes.proofs.cicp_named.Statement.{statement}
+use Rattle.panel_codes.proofs.cicp_named.Tie as tie
 
 returns : tie.Need-returns
 unfolding cicp-named

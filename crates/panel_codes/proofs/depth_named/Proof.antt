@@ -1,9 +1,9 @@
 -- Each arm gives the value with that code; a code that no arm has is that of no value.
 use borrow.Author.Needs.{needs}
-use Rattle.codes.specs.Codes.{every-depth}
-use Rattle.codes.proofs.Named.{depth-finds, depth-misses}
-use Rattle.codes.proofs.depth_named.Statement.{statement}
-use Rattle.codes.proofs.depth_named.Tie as tie
+use Rattle.panel_codes.specs.Codes.{every-depth}
+use Rattle.panel_codes.proofs.Named.{depth-finds, depth-misses}
+use Rattle.panel_codes.proofs.depth_named.Statement.{statement}
+use Rattle.panel_codes.proofs.depth_named.Tie as tie
 
 missing : tie.Need-returns-4
 unfolding every-depth

@@ -1,9 +1,9 @@
 -- Kind by kind: the look-up of that kind tells whether a value has the code.
-use borrow.Author.Needs.{needs}
 use mathlib.Core.Path.{ap, _∙_}
-use Rattle.panel.specs.Items.{has}
-use Rattle.codes.proofs.is_code.Statement.{statement}
-use Rattle.codes.proofs.is_code.Tie as tie
+use borrow.Author.Needs.{needs}
+use Rattle.panel.specs.Parts.{has}
+use Rattle.panel_codes.proofs.is_code.Statement.{statement}
+use Rattle.panel_codes.proofs.is_code.Tie as tie
 
 returns : tie.Need-returns
 returns c =

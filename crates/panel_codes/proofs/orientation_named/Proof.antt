@@ -1,9 +1,9 @@
 -- Each arm gives the value with that code; a code that no arm has is that of no value.
 use borrow.Author.Needs.{needs}
-use Rattle.codes.specs.Codes.{every-orientation}
-use Rattle.codes.proofs.Named.{orientation-finds, orientation-misses}
-use Rattle.codes.proofs.orientation_named.Statement.{statement}
-use Rattle.codes.proofs.orientation_named.Tie as tie
+use Rattle.panel_codes.specs.Codes.{every-orientation}
+use Rattle.panel_codes.proofs.Named.{orientation-finds, orientation-misses}
+use Rattle.panel_codes.proofs.orientation_named.Statement.{statement}
+use Rattle.panel_codes.proofs.orientation_named.Tie as tie
 
 missing : tie.Need-returns-9
 unfolding every-orientation

@@ -1,9 +1,9 @@
 -- Each arm gives the value with that code; a code that no arm has is that of no value.
 use borrow.Author.Needs.{needs}
-use Rattle.codes.specs.Codes.{every-bool}
-use Rattle.codes.proofs.Named.{bool-finds, bool-misses}
-use Rattle.codes.proofs.yes_no.Statement.{statement}
-use Rattle.codes.proofs.yes_no.Tie as tie
+use Rattle.panel_codes.specs.Codes.{every-bool}
+use Rattle.panel_codes.proofs.Named.{bool-finds, bool-misses}
+use Rattle.panel_codes.proofs.yes_no.Statement.{statement}
+use Rattle.panel_codes.proofs.yes_no.Tie as tie
 
 missing : tie.Need-returns-3
 unfolding every-bool

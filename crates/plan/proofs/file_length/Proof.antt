@@ -1,8 +1,8 @@
 -- What `form_length` answers in the ordinary form.
 use borrow.Author.Needs.{needs}
-use Rattle.panel.specs.Forms.{form-of}
-use Rattle.layout.proofs.file_length.Statement.{statement}
-use Rattle.layout.proofs.file_length.Tie as tie
+use Rattle.panel.specs.Form.{form-of}
+use Rattle.plan.proofs.file_length.Statement.{statement}
+use Rattle.plan.proofs.file_length.Tie as tie
 
 returns : tie.Need-returns
 unfolding form-of

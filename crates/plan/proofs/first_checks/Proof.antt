@@ -1,11 +1,11 @@
 -- Each check that refuses answers, in their order.
-use borrow.Author.Needs.{needs}
-use native.Mathlib.Omega.{arith}
 use mathlib.Core.Path.{sym, ap, _∙_}
+use native.Mathlib.Omega.{arith}
 use lib.ListN.{length}
-use Rattle.layout.proofs.Answers.{few, stop-1, stop-2, stop-3, stop-4}
-use Rattle.layout.proofs.first_checks.Statement.{statement}
-use Rattle.layout.proofs.first_checks.Tie as tie
+use borrow.Author.Needs.{needs}
+use Rattle.plan.proofs.Answers.{few, stop-1, stop-2, stop-3, stop-4}
+use Rattle.plan.proofs.first_checks.Statement.{statement}
+use Rattle.plan.proofs.first_checks.Tie as tie
 
 returns : tie.Need-returns
 returns c =

@@ -1,8 +1,8 @@
 -- By the plan: a refusal is passed on, and a plan that is made has the length.
 use borrow.Author.Needs.{needs}
-use Rattle.layout.proofs.Answers.{made-length}
-use Rattle.layout.proofs.form_length.Statement.{statement}
-use Rattle.layout.proofs.form_length.Tie as tie
+use Rattle.plan.proofs.Answers.{made-length}
+use Rattle.plan.proofs.form_length.Statement.{statement}
+use Rattle.plan.proofs.form_length.Tie as tie
 
 returns : tie.Need-returns
 returns c =

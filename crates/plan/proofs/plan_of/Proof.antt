@@ -1,11 +1,11 @@
 -- The first checks, and where they pass, the sizes of the boxes make the file.
-use borrow.Author.Needs.{needs}
 use mathlib.Core.Path.{refl}
+use borrow.Author.Needs.{needs}
+use Rattle.panel.specs.Lent.{lent}
 use Rattle.panel.proofs.Widths.{fits}
-use Rattle.layout.specs.Lent.{lent}
-use Rattle.layout.proofs.Answers.{stop-5, room, given, accepted}
-use Rattle.layout.proofs.plan_of.Statement.{statement}
-use Rattle.layout.proofs.plan_of.Tie as tie
+use Rattle.plan.proofs.Answers.{stop-5, room, given, accepted}
+use Rattle.plan.proofs.plan_of.Statement.{statement}
+use Rattle.plan.proofs.plan_of.Tie as tie
 
 returns : tie.Need-returns
 unfolding lent

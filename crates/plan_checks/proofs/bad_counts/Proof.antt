@@ -1,11 +1,11 @@
 -- The first count that differs, or the second.
-use borrow.Author.Needs.{needs}
 use mathlib.Core.Path.{ap}
 use mathlib.Core.Bool.{not}
-use Rattle.octets.proofs.Tests.{or-here, or-next}
+use borrow.Author.Needs.{needs}
 use borrow.Author.Tests.{eq-eqb, ne-eqb}
-use Rattle.checks.proofs.bad_counts.Statement.{statement}
-use Rattle.checks.proofs.bad_counts.Tie as tie
+use Rattle.octets.proofs.Tests.{or-here, or-next}
+use Rattle.plan_checks.proofs.bad_counts.Statement.{statement}
+use Rattle.plan_checks.proofs.bad_counts.Tie as tie
 
 returns : tie.Need-returns
 returns c =

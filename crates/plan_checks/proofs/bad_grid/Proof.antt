@@ -1,9 +1,9 @@
 -- The first side that is bad, or the second.
-use borrow.Author.Needs.{needs}
 use mathlib.Core.Path.{sym, _∙_}
+use borrow.Author.Needs.{needs}
 use Rattle.octets.proofs.Tests.{or-here, or-next}
-use Rattle.checks.proofs.bad_grid.Statement.{statement}
-use Rattle.checks.proofs.bad_grid.Tie as tie
+use Rattle.plan_checks.proofs.bad_grid.Statement.{statement}
+use Rattle.plan_checks.proofs.bad_grid.Tie as tie
 
 returns : tie.Need-returns
 returns c =

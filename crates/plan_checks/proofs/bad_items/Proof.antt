@@ -1,9 +1,9 @@
 -- The last id, or else the tiles.
-use borrow.Author.Needs.{needs}
 use mathlib.Core.Path.{sym, _∙_}
+use borrow.Author.Needs.{needs}
 use Rattle.octets.proofs.Tests.{or-here, or-next}
-use Rattle.layout.proofs.bad_items.Statement.{statement}
-use Rattle.layout.proofs.bad_items.Tie as tie
+use Rattle.plan_checks.proofs.bad_items.Statement.{statement}
+use Rattle.plan_checks.proofs.bad_items.Tie as tie
 
 returns : tie.Need-returns
 returns c =

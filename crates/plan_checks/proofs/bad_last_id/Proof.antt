@@ -1,13 +1,14 @@
 -- Ids of 32 bits always fit.
-use borrow.Author.Needs.{needs}
-use native.Mathlib.Omega.{arith}
 use mathlib.Core.Path.{sym, ap, _∙_}
 use Prim.Native.Nat.{ℕ}
+use native.Mathlib.Omega.{arith}
+use borrow.Author.Needs.{needs}
 use borrow.Author.Tests.{lt-leb}
-use Rattle.panel.specs.Refusal.{last-id, bad-id}
-use Rattle.panel.proofs.Forms.{tested}
-use Rattle.layout.proofs.bad_last_id.Statement.{statement}
-use Rattle.layout.proofs.bad_last_id.Tie as tie
+use Rattle.panel.proofs.Form.{tested}
+use Rattle.heif.specs.Items.{last-id}
+use Rattle.heif.specs.Refusal.{bad-id}
+use Rattle.plan_checks.proofs.bad_last_id.Statement.{statement}
+use Rattle.plan_checks.proofs.bad_last_id.Tie as tie
 
 returns : tie.Need-returns
 returns c =

@@ -1,8 +1,8 @@
 -- The first test that holds, or the second.
-use Rattle.octets.proofs.Tests.{or-here, or-next}
 use borrow.Author.Tests.{lt-ltb, le-ltb}
-use Rattle.checks.proofs.bad_side.Statement.{statement}
-use Rattle.checks.proofs.bad_side.Tie as tie
+use Rattle.octets.proofs.Tests.{or-here, or-next}
+use Rattle.plan_checks.proofs.bad_side.Statement.{statement}
+use Rattle.plan_checks.proofs.bad_side.Tie as tie
 
 returns : tie.Need-returns
 returns c =

@@ -1,10 +1,10 @@
 -- The first sum that differs, or the second.
-use borrow.Author.Needs.{needs}
 use mathlib.Core.Path.{sym, ap, _∙_}
 use mathlib.Core.Bool.{not}
+use borrow.Author.Needs.{needs}
 use Rattle.octets.proofs.Tests.{or-here, or-next}
-use Rattle.checks.proofs.bad_sums.Statement.{statement}
-use Rattle.checks.proofs.bad_sums.Tie as tie
+use Rattle.plan_checks.proofs.bad_sums.Statement.{statement}
+use Rattle.plan_checks.proofs.bad_sums.Tie as tie
 
 returns : tie.Need-returns
 returns c =

@@ -1,15 +1,15 @@
 -- What is added and what is left make the sum; a term above what is missing makes it too large.
-use borrow.Author.Needs.{needs}
-use native.Mathlib.Omega.{arith}
 use mathlib.Core.Path.{_≡_, sym, ap}
 use Prim.Native.Nat.{ℕ, _+_, _-_, _≤_, _<_}
-use Rattle.checks.proofs.Tests.{total-step, total-none}
-use borrow.Author.Tests.{ne-eqb}
+use native.Mathlib.Omega.{arith}
 use lib.Dec.{eqb}
 use lib.ListN.{length, drop}
+use borrow.Author.Needs.{needs}
+use borrow.Author.Tests.{ne-eqb}
 use Rattle.octets.specs.Numbers.{total}
-use Rattle.checks.proofs.sums_to.Statement.{statement}
-use Rattle.checks.proofs.sums_to.Tie as tie
+use Rattle.plan_checks.proofs.Tests.{total-step, total-none}
+use Rattle.plan_checks.proofs.sums_to.Statement.{statement}
+use Rattle.plan_checks.proofs.sums_to.Tie as tie
 
 abbrev Inv-loop : tie.InvT-loop
 Inv-loop lengths sum s₀ i₀ s i = (i ≤ length lengths) × (s + total (drop i lengths) ≡ total lengths) × (s ≤ sum)

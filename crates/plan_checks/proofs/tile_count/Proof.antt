@@ -1,8 +1,8 @@
 -- A product of two numbers of 32 bits.
 use borrow.Author.Needs.{needs}
-use Rattle.checks.proofs.Tests.{below}
-use Rattle.checks.proofs.tile_count.Statement.{statement}
-use Rattle.checks.proofs.tile_count.Tie as tie
+use Rattle.plan_checks.proofs.Tests.{below}
+use Rattle.plan_checks.proofs.tile_count.Statement.{statement}
+use Rattle.plan_checks.proofs.tile_count.Tie as tie
 
 mul-result : tie.Need-mul-result
 mul-result c = record { fits = below 32 (search needs) (search needs) }

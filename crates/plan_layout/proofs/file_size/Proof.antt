@@ -1,8 +1,8 @@
 -- ftyp, meta and mdat.
-use borrow.Author.Needs.{needs}
 use native.Mathlib.Omega.{arith}
-use Rattle.offsets.proofs.file_size.Statement.{statement}
-use Rattle.offsets.proofs.file_size.Tie as tie
+use borrow.Author.Needs.{needs}
+use Rattle.plan_layout.proofs.file_size.Statement.{statement}
+use Rattle.plan_layout.proofs.file_size.Tie as tie
 
 returns : tie.Need-returns
 returns c = λ f p z. record { below = omega (arith, z .ftyp, z .meta .below, z .mdat .below); whole = λ h. omega (arith, z .ftyp, z .meta .whole (omega (arith, h, z .ftyp)), z .mdat .whole (omega (arith, h, z .ftyp))) }

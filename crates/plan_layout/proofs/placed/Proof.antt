@@ -1,9 +1,9 @@
 -- Sizes that make a file are lengths, and the data lie behind ftyp, meta and the head of mdat.
-use borrow.Author.Needs.{needs}
 use native.Mathlib.Omega.{arith}
-use Rattle.offsets.proofs.Exact.{as-lengths}
-use Rattle.offsets.proofs.placed.Statement.{statement}
-use Rattle.offsets.proofs.placed.Tie as tie
+use borrow.Author.Needs.{needs}
+use Rattle.plan_layout.proofs.Exact.{as-lengths}
+use Rattle.plan_layout.proofs.placed.Statement.{statement}
+use Rattle.plan_layout.proofs.placed.Tie as tie
 
 returns : tie.Need-returns
 returns c =

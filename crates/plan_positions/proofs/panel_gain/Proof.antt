@@ -1,12 +1,12 @@
 -- One box of each kind and the alternate colours, or none.
-use borrow.Author.Needs.{needs}
-use native.Mathlib.Omega.{arith}
 use mathlib.Core.Path.{ap, _∙_}
-use Rattle.places.proofs.Roles.{narrow-image, narrow-tone}
-use Rattle.places.specs.Places.{gain-at, behind-gain}
-use Rattle.places.specs.declared.gain.GainPlaces.{GainPlaces}
-use Rattle.places.proofs.panel_gain.Statement.{statement}
-use Rattle.places.proofs.panel_gain.Tie as tie
+use native.Mathlib.Omega.{arith}
+use borrow.Author.Needs.{needs}
+use Rattle.plan_positions.specs.Gain.{gain-at, behind-gain}
+use Rattle.plan_positions.specs.declared.gain.GainPlaces.{GainPlaces}
+use Rattle.plan_positions.proofs.Roles.{narrow-image, narrow-tone}
+use Rattle.plan_positions.proofs.panel_gain.Statement.{statement}
+use Rattle.plan_positions.proofs.panel_gain.Tie as tie
 
 returns : tie.Need-returns
 returns c =

@@ -1,12 +1,12 @@
 -- So many of each as are counted.
-use borrow.Author.Needs.{needs}
-use native.Mathlib.Omega.{arith}
 use mathlib.Core.Path.{_∙_}
 use Prim.Native.Nat.{_+_}
-use Rattle.places.proofs.Roles.{narrow-options}
-use Rattle.places.specs.Places.{options-at}
-use Rattle.places.proofs.panel_options.Statement.{statement}
-use Rattle.places.proofs.panel_options.Tie as tie
+use native.Mathlib.Omega.{arith}
+use borrow.Author.Needs.{needs}
+use Rattle.plan_runs.specs.Pictures.{options-at}
+use Rattle.plan_positions.proofs.Roles.{narrow-options}
+use Rattle.plan_positions.proofs.panel_options.Statement.{statement}
+use Rattle.plan_positions.proofs.panel_options.Tie as tie
 
 returns : tie.Need-returns
 returns c =

@@ -1,19 +1,21 @@
 -- Runs laid one behind the other from the first position on.
-use borrow.Author.Needs.{needs}
-use native.Mathlib.Omega.{arith}
 use mathlib.Core.Path.{ap, _∙_}
 use mathlib.Core.Bool.{cond}
 use mathlib.Core.List.{[]}
 use Prim.Native.Nat.{ℕ, _+_, _-_}
-use Rattle.places.proofs.Roles.{placed-of, narrow-colour, narrow-alpha}
-use Rattle.places.specs.declared.gain.GainPlaces.{GainPlaces}
-use Rattle.places.specs.Places.{alpha-at, options-at, gain-at, behind-gain}
-use Rattle.length.specs.Properties.{second-colr-count, irot-count, imir-count}
+use native.Mathlib.Omega.{arith}
+use borrow.Author.Needs.{needs}
 use Rattle.panel.specs.Of.{panel-of}
-use Rattle.panel.specs.Items.{has}
-use Rattle.places.specs.Alternates.{toned-alternates}
-use Rattle.places.proofs.places_of.Statement.{statement}
-use Rattle.places.proofs.places_of.Tie as tie
+use Rattle.panel.specs.Parts.{has}
+use Rattle.heif.specs.Colr.{second-colr-count}
+use Rattle.heif.specs.Irot.{irot-count}
+use Rattle.heif.specs.Imir.{imir-count}
+use Rattle.plan_runs.specs.Pictures.{alpha-at, options-at}
+use Rattle.plan_positions.specs.Gain.{gain-at, behind-gain, toned-alternates}
+use Rattle.plan_positions.specs.declared.gain.GainPlaces.{GainPlaces}
+use Rattle.plan_positions.proofs.Roles.{placed-of, narrow-colour, narrow-alpha}
+use Rattle.plan_positions.proofs.places_of.Statement.{statement}
+use Rattle.plan_positions.proofs.places_of.Tie as tie
 
 -- the first position is 1, and the record is only ever raised
 sub-t17 : tie.Need-sub-t17

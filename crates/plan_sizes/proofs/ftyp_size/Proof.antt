@@ -1,11 +1,11 @@
 -- Four bytes for each further brand.
-use borrow.Author.Needs.{needs}
-use native.Mathlib.Omega.{arith}
 use mathlib.Core.Path.{ap}
 use mathlib.Core.Bool.{Bool, cond}
 use Prim.Native.Nat.{ℕ}
-use Rattle.sizes.proofs.ftyp_size.Statement.{statement}
-use Rattle.sizes.proofs.ftyp_size.Tie as tie
+use native.Mathlib.Omega.{arith}
+use borrow.Author.Needs.{needs}
+use Rattle.plan_sizes.proofs.ftyp_size.Statement.{statement}
+use Rattle.plan_sizes.proofs.ftyp_size.Tie as tie
 
 returns : tie.Need-returns
 returns c =

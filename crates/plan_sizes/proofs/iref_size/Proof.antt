@@ -1,13 +1,13 @@
 -- Reference by reference.
-use borrow.Author.Needs.{needs}
-use native.Mathlib.Omega.{arith}
 use mathlib.Core.Path.{_≡_, ap, _∙_}
 use mathlib.Core.Bool.{cond}
 use Prim.Native.Nat.{ℕ, _+_, _*_}
-use Rattle.panel.specs.Forms.{form-of}
-use Rattle.length.specs.Size.{reference-size}
-use Rattle.sizes.proofs.iref_size.Statement.{statement}
-use Rattle.sizes.proofs.iref_size.Tie as tie
+use native.Mathlib.Omega.{arith}
+use borrow.Author.Needs.{needs}
+use Rattle.panel.specs.Form.{form-of}
+use Rattle.heif.specs.Iref.{reference-size}
+use Rattle.plan_sizes.proofs.iref_size.Statement.{statement}
+use Rattle.plan_sizes.proofs.iref_size.Tie as tie
 
 returns : tie.Need-returns
 returns c =

@@ -1,10 +1,10 @@
 -- The sum of the payloads.
-use borrow.Author.Needs.{needs}
-use native.Mathlib.Omega.{arith}
 use mathlib.Core.Path.{refl}
-use Rattle.sizes.proofs.Caps.{_⊕_, exact, renamed, together}
-use Rattle.sizes.proofs.mdat_size.Statement.{statement}
-use Rattle.sizes.proofs.mdat_size.Tie as tie
+use native.Mathlib.Omega.{arith}
+use borrow.Author.Needs.{needs}
+use Rattle.plan_sizes.proofs.Caps.{_⊕_, exact, renamed, together}
+use Rattle.plan_sizes.proofs.mdat_size.Statement.{statement}
+use Rattle.plan_sizes.proofs.mdat_size.Tie as tie
 
 returns : tie.Need-returns
 returns c =

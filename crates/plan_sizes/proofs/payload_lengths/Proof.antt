@@ -1,18 +1,17 @@
 -- Nothing, or the lengths of the parts, that of the tone map if there is one.
-use borrow.Author.Needs.{needs}
 use mathlib.Core.Path.{_≡_, refl, ap, _∙_}
 use mathlib.Core.Bool.{Bool, cond}
 use mathlib.Core.List.{List}
 use Prim.Native.Nat.{ℕ}
-use Rattle.panel.specs.Items.{has}
+use borrow.Author.Needs.{needs}
+use Rattle.panel.specs.Parts.{has, long}
 use Rattle.panel.specs.Of.{part}
-use Rattle.panel.specs.declared.color.Part.{Part}
-use Rattle.panel.specs.declared.color.Part.the-variants.{Absent, Present}
-use Rattle.length.specs.Parts.{long}
-use Rattle.sizes.specs.Capped.{Capped, Length-of}
-use Rattle.sizes.proofs.Caps.{exact, renamed}
-use Rattle.sizes.proofs.payload_lengths.Statement.{statement}
-use Rattle.sizes.proofs.payload_lengths.Tie as tie
+use Rattle.panel.specs.declared.part.Part.{Part}
+use Rattle.panel.specs.declared.part.Part.the-variants.{Absent, Present}
+use Rattle.plan_sizes.specs.Capped.{Capped, Length-of}
+use Rattle.plan_sizes.proofs.Caps.{exact, renamed}
+use Rattle.plan_sizes.proofs.payload_lengths.Statement.{statement}
+use Rattle.plan_sizes.proofs.payload_lengths.Tie as tie
 
 if-present : (q : Part) (x : List ℕ) {n k : ℕ} → Length-of x n → k ≡ cond (has (part q x)) n 0 → Capped 4294967295 k (long (part q x))
 if-present Absent x h e = renamed exact e refl

@@ -1,18 +1,22 @@
 -- Box by box.
-use borrow.Author.Needs.{needs}
-use native.Mathlib.Omega.{arith}
 use mathlib.Core.Path.{_≡_, sym, ap, _∙_}
 use mathlib.Core.Bool.{cond}
 use Prim.Native.Nat.{ℕ, _+_, _*_}
-use Rattle.sizes.proofs.Caps.{iprp-capped, meta-capped}
+use native.Mathlib.Omega.{arith}
+use borrow.Author.Needs.{needs}
 use Rattle.panel.specs.Of.{panel-of}
-use Rattle.length.specs.Size.{iloc-size, iinf-size, iref-size, idat-size, ftyp-size}
-use Rattle.panel.specs.Forms.{form-of}
+use Rattle.panel.specs.Form.{form-of}
 use Rattle.panel.specs.declared.Shape.{Shape}
-use Rattle.places.specs.Counts.{ipma-bytes}
-use Rattle.places.proofs.Sizes.{ipma-by-runs}
-use Rattle.sizes.proofs.sizes_of.Statement.{statement}
-use Rattle.sizes.proofs.sizes_of.Tie as tie
+use Rattle.heif.specs.Iloc.{iloc-size}
+use Rattle.heif.specs.Iinf.{iinf-size}
+use Rattle.heif.specs.Iref.{iref-size}
+use Rattle.heif.specs.Idat.{idat-size}
+use Rattle.heif.specs.Ftyp.{ftyp-size}
+use Rattle.plan_positions.specs.Counts.{ipma-bytes}
+use Rattle.plan_positions.proofs.Sizes.{ipma-by-runs}
+use Rattle.plan_sizes.proofs.Caps.{iprp-capped, meta-capped}
+use Rattle.plan_sizes.proofs.sizes_of.Statement.{statement}
+use Rattle.plan_sizes.proofs.sizes_of.Tie as tie
 
 returns : tie.Need-returns
 unfolding panel-of

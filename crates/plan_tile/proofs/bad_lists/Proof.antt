@@ -3,8 +3,8 @@ use mathlib.Core.Path.{ap}
 use mathlib.Core.Bool.{not}
 use borrow.Author.Tests.{eq-eqb, ne-eqb}
 use Rattle.octets.proofs.Tests.{or-here, or-next}
-use Rattle.tiles.proofs.bad_lists.Statement.{statement}
-use Rattle.tiles.proofs.bad_lists.Tie as tie
+use Rattle.plan_tile.proofs.bad_lists.Statement.{statement}
+use Rattle.plan_tile.proofs.bad_lists.Tie as tie
 
 returns : tie.Need-returns
 returns c = or-here _ _ (ap not (ne-eqb _ _ (c .if1 .taken)))

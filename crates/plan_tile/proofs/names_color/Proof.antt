@@ -2,8 +2,8 @@
 use borrow.Author.Needs.{needs}
 use borrow.Author.Tests.{le-leb, lt-leb}
 use Rattle.octets.proofs.Tests.{and-here, and-next}
-use Rattle.tiles.proofs.names_color.Statement.{statement}
-use Rattle.tiles.proofs.names_color.Tie as tie
+use Rattle.plan_tile.proofs.names_color.Statement.{statement}
+use Rattle.plan_tile.proofs.names_color.Tie as tie
 
 returns : tie.Need-returns
 returns c = and-next _ _ (le-leb _ _ (c .if1 .taken))

@@ -1,10 +1,10 @@
 -- The sum before the tile, and its own length.
-use borrow.Author.Needs.{needs}
 use mathlib.Core.Path.{ap}
 use Prim.Native.Nat.{ℕ}
 use lib.ListN.{getD}
-use Rattle.tiles.proofs.span_of.Statement.{statement}
-use Rattle.tiles.proofs.span_of.Tie as tie
+use borrow.Author.Needs.{needs}
+use Rattle.plan_tile.proofs.span_of.Statement.{statement}
+use Rattle.plan_tile.proofs.span_of.Tie as tie
 
 returns : tie.Need-returns
 returns c = ap (λ (n : ℕ). record { refusal = 0; alpha = c .before .before .before .args .alpha; start = n; size = getD (c .before .before .before .args .lengths .now) (c .before .before .before .args .k) 0 }) (c .before .sum-before .ensures)

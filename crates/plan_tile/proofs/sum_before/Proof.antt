@@ -1,13 +1,13 @@
 -- What is added after i turns is the sum of the first i lengths.
-use borrow.Author.Needs.{needs}
-use native.Mathlib.Omega.{arith}
 use mathlib.Core.Path.{_≡_, ap, _∙_}
 use Prim.Native.Nat.{ℕ, _+_, _-_, _≤_}
+use native.Mathlib.Omega.{arith}
 use lib.ListN.{take}
+use borrow.Author.Needs.{needs}
 use Rattle.octets.specs.Numbers.{total}
 use Rattle.octets.proofs.Lists.{total-step, total-take}
-use Rattle.tiles.proofs.sum_before.Statement.{statement}
-use Rattle.tiles.proofs.sum_before.Tie as tie
+use Rattle.plan_tile.proofs.sum_before.Statement.{statement}
+use Rattle.plan_tile.proofs.sum_before.Tie as tie
 
 abbrev Inv-loop : tie.InvT-loop
 Inv-loop lengths k sum₀ i₀ sum i = (i ≤ k) × (sum ≡ total (take i lengths))

@@ -1,12 +1,12 @@
 -- The part is that of the span, in the alpha bytes or in the colour bytes, and so is its place.
-use borrow.Author.Needs.{needs}
 use mathlib.Core.Bool.{true, false}
 use Prim.Native.Nat.{_<_}
 use lib.ListN.{length}
-use Rattle.tiles.specs.Lookup.{lent-tiles}
-use Rattle.tiles.proofs.Answers.{cut-within, cut-is, cut-lies, ends-below}
-use Rattle.tiles.proofs.tile.Statement.{statement}
-use Rattle.tiles.proofs.tile.Tie as tie
+use borrow.Author.Needs.{needs}
+use Rattle.plan_tile.specs.Lookup.{lent-tiles}
+use Rattle.plan_tile.proofs.Answers.{cut-within, cut-is, cut-lies, ends-below}
+use Rattle.plan_tile.proofs.tile.Statement.{statement}
+use Rattle.plan_tile.proofs.tile.Tie as tie
 
 add-end : tie.Need-add-end
 unfolding lent-tiles

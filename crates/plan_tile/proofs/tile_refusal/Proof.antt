@@ -1,11 +1,11 @@
 -- Each check that refuses answers its number, and where none does the answer is 0.
-use borrow.Author.Needs.{needs}
 use mathlib.Core.Path.{sym, _∙_}
+use borrow.Author.Needs.{needs}
 use Rattle.octets.proofs.Tests.{or-here, or-next}
-use Rattle.tiles.specs.Lookup.{lent-tiles}
-use Rattle.tiles.proofs.Answers.{few, stop-2, stop-3, stop-4, stop-7, accept}
-use Rattle.tiles.proofs.tile_refusal.Statement.{statement}
-use Rattle.tiles.proofs.tile_refusal.Tie as tie
+use Rattle.plan_tile.specs.Lookup.{lent-tiles}
+use Rattle.plan_tile.proofs.Answers.{few, stop-2, stop-3, stop-4, stop-7, accept}
+use Rattle.plan_tile.proofs.tile_refusal.Statement.{statement}
+use Rattle.plan_tile.proofs.tile_refusal.Tie as tie
 
 returns : tie.Need-returns
 unfolding lent-tiles

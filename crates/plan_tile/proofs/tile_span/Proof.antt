@@ -1,12 +1,12 @@
 -- Where the lookup refuses, no span; else that of the one list or of the other, whose tile the id names.
-use borrow.Author.Needs.{needs}
 use mathlib.Core.Path.{sym, _∙_}
 use Prim.Native.Nat.{_<_}
 use lib.ListN.{length}
-use Rattle.tiles.specs.Lookup.{lent-tiles}
-use Rattle.tiles.proofs.Answers.{colour-within, alpha-within, accepted, refused-span, colour-span, alpha-span}
-use Rattle.tiles.proofs.tile_span.Statement.{statement}
-use Rattle.tiles.proofs.tile_span.Tie as tie
+use borrow.Author.Needs.{needs}
+use Rattle.plan_tile.specs.Lookup.{lent-tiles}
+use Rattle.plan_tile.proofs.Answers.{colour-within, alpha-within, accepted, refused-span, colour-span, alpha-span}
+use Rattle.plan_tile.proofs.tile_span.Statement.{statement}
+use Rattle.plan_tile.proofs.tile_span.Tie as tie
 
 returns : tie.Need-returns
 returns c =

@@ -5,9 +5,9 @@ use Prim.Native.Nat.{ℕ, _+_, _*_}
 use native.Mathlib.Omega.{arith}
 use lib.Dec.{ltb}
 use borrow.Author.Tests.{lt-ltb, le-ltb, ltb-true, ltb-false}
-use Rattle.tiles.specs.Lookup.{too-many}
-use Rattle.tiles.proofs.too_many.Statement.{statement}
-use Rattle.tiles.proofs.too_many.Tie as tie
+use Rattle.plan_tile.specs.Lookup.{too-many}
+use Rattle.plan_tile.proofs.too_many.Statement.{statement}
+use Rattle.plan_tile.proofs.too_many.Tie as tie
 
 halved : (n : ℕ) → ltb 32766 n ≡ too-many n
 halved n = by (ltb 32766 n) refl

@@ -1,8 +1,8 @@
 -- At most a hundred sheets.
-use borrow.Author.Needs.{needs}
 use Prim.Native.Nat.{_≤_, _-_}
-use Rattle.sheet_runs.proofs.main.Statement.{statement}
-use Rattle.sheet_runs.proofs.main.Tie as tie
+use borrow.Author.Needs.{needs}
+use Rattle.program_sheets.proofs.main.Statement.{statement}
+use Rattle.program_sheets.proofs.main.Tie as tie
 
 abbrev Inv-loop : tie.InvT-loop
 Inv-loop i₀ i = i ≤ 100

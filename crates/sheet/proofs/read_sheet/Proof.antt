@@ -1,8 +1,8 @@
 -- Section by section, to the end.
 use borrow.Author.Needs.{needs}
-use Rattle.checks.proofs.Tests.{below}
-use Rattle.sheet.specs.Sheet.{fields}
+use Rattle.plan_checks.proofs.Tests.{below}
 use Rattle.sheet_fields.proofs.Reading.{goes-on, as-well}
+use Rattle.sheet.specs.Sheet.{fields}
 use Rattle.sheet.proofs.Panels.{sections}
 use Rattle.sheet.proofs.read_sheet.Statement.{statement}
 use Rattle.sheet.proofs.read_sheet.Tie as tie

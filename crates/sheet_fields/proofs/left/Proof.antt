@@ -1,7 +1,7 @@
 -- What lies behind the position, if anything does.
-use borrow.Author.Needs.{needs}
 use native.Mathlib.Omega.{arith}
 use lib.ListN.{length-drop}
+use borrow.Author.Needs.{needs}
 use Rattle.sheet_fields.proofs.left.Statement.{statement}
 use Rattle.sheet_fields.proofs.left.Tie as tie
 

@@ -1,9 +1,9 @@
 -- The value of the four bytes.
-use borrow.Author.Needs.{needs}
-use native.Mathlib.Omega.{arith}
 use mathlib.Core.Path.{_≡_, ap, _∙_}
 use Prim.Native.Nat.{_+_, _-_}
+use native.Mathlib.Omega.{arith}
 use lib.ListN.{take, drop}
+use borrow.Author.Needs.{needs}
 use Rattle.octets.specs.Numbers.{value}
 use Rattle.sheet_fields.proofs.length_at.Statement.{statement}
 use Rattle.sheet_fields.proofs.length_at.Tie as tie

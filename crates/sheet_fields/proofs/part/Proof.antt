@@ -1,10 +1,10 @@
 -- Nothing behind the end of the sheet, the rest where the span is longer, else the span.
-use borrow.Author.Needs.{needs}
-use native.Mathlib.Omega.{arith}
 use mathlib.Core.Path.{_≡_, sym, ap, _∙_}
 use Prim.Native.Nat.{_+_, _-_, _≤_}
+use native.Mathlib.Omega.{arith}
 use lib.ListN.{length, take, drop, drop-of-length-le, length-drop}
 use lib.Seq.{take-nil, take-all}
+use borrow.Author.Needs.{needs}
 use Rattle.sheet_fields.proofs.part.Statement.{statement}
 use Rattle.sheet_fields.proofs.part.Tie as tie
 

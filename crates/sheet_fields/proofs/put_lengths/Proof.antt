@@ -1,11 +1,11 @@
 -- Length by length: so far the front of the list.
 use mathlib.Core.Path.{_≡_, _∙_}
 use Prim.Native.Nat.{_≤_, _<_, _-_, _*_}
+use native.Mathlib.Omega.{arith}
 use lib.ListN.{length, take, length-set}
+use borrow.Author.Needs.{needs}
 use Rattle.octets.specs.Numbers.{total}
 use Rattle.sheet_fields.specs.Fields.{words}
-use borrow.Author.Needs.{needs}
-use native.Mathlib.Omega.{arith}
 use Rattle.sheet_fields.proofs.Values.{words-put, words-sum}
 use Rattle.sheet_fields.proofs.put_lengths.Statement.{statement}
 use Rattle.sheet_fields.proofs.put_lengths.Tie as tie

@@ -1,9 +1,9 @@
 -- The bytes are there, or the sheet ends before them.
-use borrow.Author.Needs.{needs}
-use native.Mathlib.Omega.{arith}
 use mathlib.Core.Path.{sym, ap, _∙_}
+use native.Mathlib.Omega.{arith}
 use lib.ListN.{drop, length-drop}
 use lib.Seq.{length-take-le}
+use borrow.Author.Needs.{needs}
 use Rattle.sheet_fields.specs.declared.Cursor.{Cursor}
 use Rattle.sheet_fields.proofs.Reading.{short, enough, never}
 use Rattle.sheet_fields.proofs.read_bytes.Statement.{statement}

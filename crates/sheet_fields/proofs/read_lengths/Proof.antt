@@ -1,9 +1,9 @@
 -- The bytes of the lengths, and the lengths in them.
-use borrow.Author.Needs.{needs}
-use native.Mathlib.Omega.{arith}
 use mathlib.Core.Path.{_≡_, sym, ap, _∙_}
 use Prim.Native.Nat.{_/_, _*_, _≤_}
+use native.Mathlib.Omega.{arith}
 use lib.ListN.{length}
+use borrow.Author.Needs.{needs}
 use Rattle.octets.specs.Numbers.{total}
 use Rattle.sheet_fields.specs.Fields.{words, lengths}
 use Rattle.sheet_fields.specs.Cursor.{span-of}

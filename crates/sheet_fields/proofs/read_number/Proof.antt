@@ -1,9 +1,9 @@
 -- The value of the bytes that are read.
-use borrow.Author.Needs.{needs}
-use native.Mathlib.Omega.{arith}
 use mathlib.Core.Path.{sym, ap, _∙_}
 use Prim.Native.Nat.{_≤_}
+use native.Mathlib.Omega.{arith}
 use lib.ListN.{length}
+use borrow.Author.Needs.{needs}
 use Rattle.octets.specs.Numbers.{value}
 use Rattle.sheet_fields.specs.Fields.{number}
 use Rattle.sheet_fields.proofs.Reading.{goes-on, done, as-well, span-size}

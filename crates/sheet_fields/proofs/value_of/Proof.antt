@@ -1,10 +1,10 @@
 -- Byte by byte: so far the value of the front.
-use borrow.Author.Needs.{needs}
-use native.Mathlib.Omega.{arith}
 use mathlib.Core.Path.{_≡_, _∙_}
 use Prim.Native.Nat.{_+_, _≤_, _<_, _-_, _*_, _^_}
+use native.Mathlib.Omega.{arith}
 use lib.ListN.{length, take, getD}
 use lib.Seq.{take-length}
+use borrow.Author.Needs.{needs}
 use Rattle.octets.specs.Numbers.{value}
 use Rattle.sheet_fields.proofs.Values.{value-step, below-step, within}
 use Rattle.sheet_fields.proofs.value_of.Statement.{statement}

@@ -1,7 +1,7 @@
 -- A refusal as the sheet is read, or what the panel is answered.
-use borrow.Author.Needs.{needs}
 use mathlib.Core.Path.{sym}
 use lib.Seq.{length-take-le}
+use borrow.Author.Needs.{needs}
 use Rattle.sheet.specs.Said.{panel-said}
 use Rattle.sheet_file.proofs.Promises.{by-stop, by-file}
 use Rattle.sheet_file.proofs.short_sheet_file.Statement.{statement}

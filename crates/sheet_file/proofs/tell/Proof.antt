@@ -1,7 +1,7 @@
 -- By what is answered.
-use borrow.Author.Needs.{needs}
 use mathlib.Core.Path.{sym, ap, _∙_}
-use Rattle.panel.specs.Answer.{refused, says}
+use borrow.Author.Needs.{needs}
+use Rattle.panel.specs.Outcome.{refused, says}
 use Rattle.sheet_file.proofs.tell.Statement.{statement}
 use Rattle.sheet_file.proofs.tell.Tie as tie
 

@@ -1,6 +1,6 @@
 -- The writing call, with the spans as byte parts.
 use borrow.Author.Needs.{needs}
-use Rattle.layout.specs.Lent.{lent}
+use Rattle.panel.specs.Lent.{lent}
 use Rattle.sheet_file.proofs.Promises.{lent-alike, promised-alike}
 use Rattle.sheet_file.proofs.write_panel.Statement.{statement}
 use Rattle.sheet_file.proofs.write_panel.Tie as tie

@@ -1,6 +1,6 @@
 -- Nothing is left, or something is.
-use borrow.Author.Needs.{needs}
 use mathlib.Core.Path.{sym, _∙_}
+use borrow.Author.Needs.{needs}
 use Rattle.sheet_frame.proofs.Frame.{over, finished}
 use Rattle.sheet_frame.proofs.at_end.Statement.{statement}
 use Rattle.sheet_frame.proofs.at_end.Tie as tie

@@ -1,7 +1,7 @@
 -- Number by number.
 use borrow.Author.Needs.{needs}
-use Rattle.sheet_frame.specs.Frame.{dims}
 use Rattle.sheet_fields.proofs.Reading.{goes-on, done}
+use Rattle.sheet_frame.specs.Frame.{dims}
 use Rattle.sheet_frame.proofs.read_dims.Statement.{statement}
 use Rattle.sheet_frame.proofs.read_dims.Tie as tie
 

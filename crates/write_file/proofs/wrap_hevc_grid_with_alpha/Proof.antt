@@ -1,8 +1,8 @@
 -- What `wrap_in_form` does in the ordinary form.
 use borrow.Author.Needs.{needs}
-use Rattle.panel.specs.Forms.{form-of}
-use Rattle.wrap.proofs.wrap_hevc_grid_with_alpha.Statement.{statement}
-use Rattle.wrap.proofs.wrap_hevc_grid_with_alpha.Tie as tie
+use Rattle.panel.specs.Form.{form-of}
+use Rattle.write_file.proofs.wrap_hevc_grid_with_alpha.Statement.{statement}
+use Rattle.write_file.proofs.wrap_hevc_grid_with_alpha.Tie as tie
 
 returns : tie.Need-returns
 unfolding form-of

@@ -1,8 +1,8 @@
 -- The plan, and where it is made and the output has room, the file.
 use borrow.Author.Needs.{needs}
-use Rattle.wrap.proofs.Promises.{by-refusal, by-room, by-writing}
-use Rattle.wrap.proofs.wrap_in_form.Statement.{statement}
-use Rattle.wrap.proofs.wrap_in_form.Tie as tie
+use Rattle.write_file.proofs.Promises.{by-refusal, by-room, by-writing}
+use Rattle.write_file.proofs.wrap_in_form.Statement.{statement}
+use Rattle.write_file.proofs.wrap_in_form.Tie as tie
 
 returns : tie.Need-returns
 returns c =

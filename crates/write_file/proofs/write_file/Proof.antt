@@ -1,12 +1,13 @@
 -- ftyp, meta and mdat, which are the file.
-use native.Mathlib.Omega.{arith}
 use mathlib.Core.Path.{sym, _∙_}
+use native.Mathlib.Omega.{arith}
 use Rattle.octets.proofs.Stores.{kept, told, _▸_}
-use Rattle.layout.specs.Lent.{lent}
-use Rattle.wrap.proofs.Ready.{sided, item-sizes, property-sizes, meta-sum, ftyp-sum, mdat-whole, mdat-short, color-count, alpha-count, color-end, alpha-end, other-end, file-sum}
-use Rattle.wrap.proofs.Made.{made-file}
-use Rattle.wrap.proofs.write_file.Statement.{statement}
-use Rattle.wrap.proofs.write_file.Tie as tie
+use Rattle.panel.specs.Lent.{lent}
+use Rattle.write_file.proofs.Ready.{sided, item-sizes, property-sizes, meta-sum, ftyp-sum, mdat-whole, mdat-short, color-count, alpha-count}
+use Rattle.write_file.proofs.Ready.{color-end, alpha-end, other-end, file-sum}
+use Rattle.write_file.proofs.Made.{made-file}
+use Rattle.write_file.proofs.write_file.Statement.{statement}
+use Rattle.write_file.proofs.write_file.Tie as tie
 
 write-ftyp-requires : tie.Need-write-ftyp-requires
 unfolding lent

@@ -1,12 +1,12 @@
 -- By the test: all 32 bits of the id, or the lower 16, which is what `be 2` writes.
-use borrow.Author.Needs.{needs}
-use native.Mathlib.Omega.{arith}
 use mathlib.Core.Path.{refl}
+use native.Mathlib.Omega.{arith}
+use borrow.Author.Needs.{needs}
 use Rattle.octets.proofs.Stores.{told}
-use Rattle.panel.proofs.Forms.{tested}
-use Rattle.boxes.proofs.Forms.{narrowed}
-use Rattle.boxes.proofs.ids.write_id.Statement.{statement}
-use Rattle.boxes.proofs.ids.write_id.Tie as tie
+use Rattle.panel.proofs.Form.{tested}
+use Rattle.write_ids.proofs.Forms.{narrowed}
+use Rattle.write_ids.proofs.write_id.Statement.{statement}
+use Rattle.write_ids.proofs.write_id.Tie as tie
 
 w32-requires : tie.Need-w32-requires
 w32-requires c κs = omega (arith, tested (c .before .before .is-wide .ensures) (c .before .if1 .taken) .id)

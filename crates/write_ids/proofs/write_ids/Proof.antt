@@ -1,10 +1,10 @@
 -- Each turn writes one id more.
 use native.Mathlib.Omega.{arith}
-use Rattle.boxes.proofs.Loops.{Turn, begun, room, turned, ended}
 use Rattle.octets.specs.Numbers.{be}
-use Rattle.panel.specs.Forms.{form-of}
-use Rattle.boxes.proofs.ids.write_ids.Statement.{statement}
-use Rattle.boxes.proofs.ids.write_ids.Tie as tie
+use Rattle.panel.specs.Form.{form-of}
+use Rattle.write_ids.proofs.Loops.{Turn, begun, room, turned, ended}
+use Rattle.write_ids.proofs.write_ids.Statement.{statement}
+use Rattle.write_ids.proofs.write_ids.Tie as tie
 
 abbrev Inv-loop : tie.InvT-loop
 Inv-loop out₀ at form n left₀ a₀ id₀ out left a id = Turn (be (form-of form .id)) (form-of form .id) out₀ at n id₀ out left a id

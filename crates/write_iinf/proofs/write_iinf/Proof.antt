@@ -1,23 +1,21 @@
 -- The head, the count, the entries of both pictures, the Exif's and the gain map's.
-use borrow.Author.Needs.{needs}
-use native.Mathlib.Omega.{arith}
 use mathlib.Core.Path.{_≡_, refl, sym, ap, _∙_}
 use mathlib.Core.Bool.{cond}
 use mathlib.Core.List.{[]}
 use Prim.Native.Nat.{ℕ, _+_, _*_}
+use native.Mathlib.Omega.{arith}
+use borrow.Author.Needs.{needs}
 use Rattle.octets.specs.Numbers.{be}
-use Rattle.octets.proofs.Lists.{cond-mul}
+use Rattle.octets.proofs.Lists.{cond-mul, pictures-joined}
 use Rattle.octets.proofs.Stores.{_▹_, kept, told, retold, _▸_}
-use Rattle.panel.specs.Items.{Form, colour-grid, alpha-grid, alpha-tile}
-use Rattle.panel.specs.Forms.{form-of}
-use Rattle.panel.specs.Iinf.{infe, tile-infes}
+use Rattle.panel.specs.Form.{Form, form-of}
 use Rattle.panel.specs.declared.Shape.{Shape}
-use Rattle.length.specs.Size.{iinf-size}
-use Rattle.length.proofs.Items.{length-infes}
-use Rattle.boxes.proofs.Pictures.{pictures-joined}
-use Rattle.boxes.proofs.Forms.{raised}
-use Rattle.items.proofs.write_iinf.Statement.{statement}
-use Rattle.items.proofs.write_iinf.Tie as tie
+use Rattle.heif.specs.Items.{colour-grid, alpha-grid, alpha-tile}
+use Rattle.heif.specs.Iinf.{infe, tile-infes, iinf-size}
+use Rattle.heif.proofs.Iinf.{length-infes}
+use Rattle.write_ids.proofs.Forms.{raised}
+use Rattle.write_iinf.proofs.write_iinf.Statement.{statement}
+use Rattle.write_iinf.proofs.write_iinf.Tie as tie
 
 size-of : (f : Form) (s : Shape)
     → 12 + (f .count + (((19 + f .id) * s .tiles + (19 + f .id)) + (((19 + f .id) * s .tiles + (19 + f .id)) + (cond (s .exif) (19 + f .id + 0) 0 + (cond (s .gain) (58 + 2 * f .id) 0 + cond (s .tone) (19 + f .id) 0))))) ≡ 8 + iinf-size f s

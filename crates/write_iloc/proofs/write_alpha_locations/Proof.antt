@@ -1,14 +1,14 @@
 -- The tiles' entries and the grid's.
-use borrow.Author.Needs.{needs}
 use mathlib.Core.Path.{refl, ap}
-use Rattle.octets.proofs.Stores.{_▹_, told}
-use Prim.Native.Nat.{ℕ}
 use mathlib.Core.List.{flatMap}
-use Rattle.panel.specs.Forms.{form-of}
-use Rattle.panel.specs.Iloc.{entry, located}
-use Rattle.locations.specs.Spans.{spans, location}
-use Rattle.isobmff.proofs.location.write_alpha_locations.Statement.{statement}
-use Rattle.isobmff.proofs.location.write_alpha_locations.Tie as tie
+use Prim.Native.Nat.{ℕ}
+use borrow.Author.Needs.{needs}
+use Rattle.octets.proofs.Stores.{_▹_, told}
+use Rattle.panel.specs.Form.{form-of}
+use Rattle.heif.specs.Iloc.{entry, located}
+use Rattle.write_iloc.specs.Spans.{spans, location}
+use Rattle.write_iloc.proofs.write_alpha_locations.Statement.{statement}
+use Rattle.write_iloc.proofs.write_alpha_locations.Tie as tie
 
 returns : tie.Need-returns
 returns c =

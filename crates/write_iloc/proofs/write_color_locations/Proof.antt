@@ -1,13 +1,13 @@
 -- The tiles' entries and the grid's.
-use borrow.Author.Needs.{needs}
 use mathlib.Core.Path.{refl, ap}
-use Rattle.octets.proofs.Stores.{_▹_, told}
 use Prim.Native.Nat.{ℕ}
-use Rattle.panel.specs.Forms.{form-of}
-use Rattle.panel.specs.Iloc.{entry}
-use Rattle.locations.specs.Spans.{location}
-use Rattle.isobmff.proofs.location.write_color_locations.Statement.{statement}
-use Rattle.isobmff.proofs.location.write_color_locations.Tie as tie
+use borrow.Author.Needs.{needs}
+use Rattle.octets.proofs.Stores.{_▹_, told}
+use Rattle.panel.specs.Form.{form-of}
+use Rattle.heif.specs.Iloc.{entry}
+use Rattle.write_iloc.specs.Spans.{location}
+use Rattle.write_iloc.proofs.write_color_locations.Statement.{statement}
+use Rattle.write_iloc.proofs.write_color_locations.Tie as tie
 
 returns : tie.Need-returns
 returns c =

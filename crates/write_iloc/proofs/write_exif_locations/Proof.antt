@@ -1,15 +1,15 @@
 -- The Exif's entry, and the gain map's behind it.
-use borrow.Author.Needs.{needs}
-use native.Mathlib.Omega.{arith}
 use mathlib.Core.Path.{refl, ap}
-use Rattle.octets.proofs.Stores.{_▹_, kept, told}
 use Prim.Native.Nat.{ℕ}
-use Rattle.panel.specs.Forms.{form-of}
-use Rattle.panel.specs.Iloc.{entry}
-use Rattle.locations.specs.Spans.{location}
-use Rattle.isobmff.proofs.Locations.{exif-first}
-use Rattle.isobmff.proofs.location.write_exif_locations.Statement.{statement}
-use Rattle.isobmff.proofs.location.write_exif_locations.Tie as tie
+use native.Mathlib.Omega.{arith}
+use borrow.Author.Needs.{needs}
+use Rattle.octets.proofs.Stores.{_▹_, kept, told}
+use Rattle.panel.specs.Form.{form-of}
+use Rattle.heif.specs.Iloc.{entry}
+use Rattle.write_iloc.specs.Spans.{location}
+use Rattle.write_iloc.proofs.Locations.{exif-first}
+use Rattle.write_iloc.proofs.write_exif_locations.Statement.{statement}
+use Rattle.write_iloc.proofs.write_exif_locations.Tie as tie
 
 exif-id-requires : tie.Need-exif-id-requires
 exif-id-requires c κs =

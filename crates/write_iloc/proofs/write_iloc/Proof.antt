@@ -1,18 +1,17 @@
 -- The head, the entries of both pictures, and the others.
-use borrow.Author.Needs.{needs}
-use native.Mathlib.Omega.{arith}
 use mathlib.Core.Path.{_≡_, ap}
-use Rattle.octets.proofs.Stores.{_▹_, kept, told}
 use mathlib.Core.Bool.{cond}
 use Prim.Native.Nat.{ℕ, _+_, _*_}
-use Rattle.panel.specs.Forms.{form-of}
+use native.Mathlib.Omega.{arith}
 use lib.ListN.{length}
-use Rattle.isobmff.proofs.Locations.{iloc-joined, iloc-long}
-use Rattle.length.specs.Size.{iloc-size}
-use Rattle.isobmff.specs.Locations.{other-sizes}
-use Rattle.isobmff.proofs.Locations.{length-other-sizes}
-use Rattle.isobmff.proofs.location.write_iloc.Statement.{statement}
-use Rattle.isobmff.proofs.location.write_iloc.Tie as tie
+use borrow.Author.Needs.{needs}
+use Rattle.octets.proofs.Stores.{_▹_, kept, told}
+use Rattle.panel.specs.Form.{form-of}
+use Rattle.heif.specs.Iloc.{iloc-size}
+use Rattle.write_iloc.specs.Locations.{other-sizes}
+use Rattle.write_iloc.proofs.Locations.{iloc-joined, iloc-long, length-other-sizes}
+use Rattle.write_iloc.proofs.write_iloc.Statement.{statement}
+use Rattle.write_iloc.proofs.write_iloc.Tie as tie
 
 write-iloc-head-requires : tie.Need-write-iloc-head-requires
 write-iloc-head-requires c κs =

@@ -1,12 +1,12 @@
 -- The head, the sizes byte, the count.
-use borrow.Author.Needs.{needs}
-use native.Mathlib.Omega.{arith}
 use mathlib.Core.Path.{refl, ap}
-use Rattle.octets.proofs.Stores.{_▹_, kept, told}
+use native.Mathlib.Omega.{arith}
+use borrow.Author.Needs.{needs}
 use Rattle.octets.specs.Numbers.{be}
-use Rattle.panel.specs.Forms.{form-of}
-use Rattle.isobmff.proofs.location.write_iloc_head.Statement.{statement}
-use Rattle.isobmff.proofs.location.write_iloc_head.Tie as tie
+use Rattle.octets.proofs.Stores.{_▹_, kept, told}
+use Rattle.panel.specs.Form.{form-of}
+use Rattle.write_iloc.proofs.write_iloc_head.Statement.{statement}
+use Rattle.write_iloc.proofs.write_iloc_head.Tie as tie
 
 last-id-requires : tie.Need-last-id-requires
 last-id-requires c κs =

@@ -1,14 +1,14 @@
 -- With the Exif's entry, or without.
-use borrow.Author.Needs.{needs}
-use native.Mathlib.Omega.{arith}
 use mathlib.Core.Path.{refl, ap}
-use Rattle.octets.proofs.Stores.{told}
 use mathlib.Core.Bool.{Bool, cond}
 use Prim.Native.Nat.{ℕ, _+_}
-use Rattle.panel.specs.Forms.{form-of}
-use Rattle.isobmff.proofs.Locations.{exif-absent}
-use Rattle.isobmff.proofs.location.write_other_locations.Statement.{statement}
-use Rattle.isobmff.proofs.location.write_other_locations.Tie as tie
+use native.Mathlib.Omega.{arith}
+use borrow.Author.Needs.{needs}
+use Rattle.octets.proofs.Stores.{told}
+use Rattle.panel.specs.Form.{form-of}
+use Rattle.write_iloc.proofs.Locations.{exif-absent}
+use Rattle.write_iloc.proofs.write_other_locations.Statement.{statement}
+use Rattle.write_iloc.proofs.write_other_locations.Tie as tie
 
 write-exif-locations-requires : tie.Need-write-exif-locations-requires
 write-exif-locations-requires c κs =

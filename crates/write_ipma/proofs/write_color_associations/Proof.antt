@@ -1,15 +1,15 @@
 -- The tiles' entries and the grid's.
-use borrow.Author.Needs.{needs}
 use mathlib.Core.Path.{refl, sym, _∙_}
+use borrow.Author.Needs.{needs}
 use Rattle.octets.proofs.Lists.{flatMap-append}
 use Rattle.octets.proofs.Stores.{_▹_, told}
-use Rattle.panel.specs.Forms.{form-of}
-use Rattle.panel.specs.Ipma.{association}
-use Rattle.boxes.proofs.Marks.{associated}
-use Rattle.places.specs.Lists.{colour-grid-list}
-use Rattle.places.proofs.Lengths.{length-colour-grid-list}
-use Rattle.ipma.proofs.write_color_associations.Statement.{statement}
-use Rattle.ipma.proofs.write_color_associations.Tie as tie
+use Rattle.panel.specs.Form.{form-of}
+use Rattle.heif.specs.Ipma.{association}
+use Rattle.plan_runs.specs.Lists.{colour-grid-list}
+use Rattle.plan_positions.proofs.Lengths.{length-colour-grid-list}
+use Rattle.write_ipma_lists.proofs.Marks.{associated}
+use Rattle.write_ipma.proofs.write_color_associations.Statement.{statement}
+use Rattle.write_ipma.proofs.write_color_associations.Tie as tie
 
 returns : tie.Need-returns
 returns c =

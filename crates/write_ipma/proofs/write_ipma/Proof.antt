@@ -1,16 +1,16 @@
 -- The head, the count, and the entries of both pictures and of the gain map.
-use borrow.Author.Needs.{needs}
-use native.Mathlib.Omega.{arith}
 use mathlib.Core.Path.{refl, sym, ap, _∙_}
-use Rattle.octets.proofs.Stores.{_▹_, kept, told, retold}
+use native.Mathlib.Omega.{arith}
+use borrow.Author.Needs.{needs}
 use Rattle.octets.specs.Numbers.{be}
-use Rattle.boxes.proofs.Forms.{raised}
-use Rattle.places.proofs.Entries.{entries-joined}
-use Rattle.length.proofs.Items.{length-associations}
-use Rattle.places.specs.Roles.{its-of}
-use Rattle.panel.specs.Forms.{form-of}
-use Rattle.ipma.proofs.write_ipma.Statement.{statement}
-use Rattle.ipma.proofs.write_ipma.Tie as tie
+use Rattle.octets.proofs.Stores.{_▹_, kept, told, retold}
+use Rattle.panel.specs.Form.{form-of}
+use Rattle.heif.proofs.Ipma.{length-associations}
+use Rattle.plan_positions.specs.Roles.{its-of}
+use Rattle.plan_positions.proofs.Entries.{entries-joined}
+use Rattle.write_ids.proofs.Forms.{raised}
+use Rattle.write_ipma.proofs.write_ipma.Statement.{statement}
+use Rattle.write_ipma.proofs.write_ipma.Tie as tie
 
 write-color-associations-requires : tie.Need-write-color-associations-requires
 write-color-associations-requires c κs =

@@ -1,12 +1,12 @@
 -- A reference to the colour grid.
-use borrow.Author.Needs.{needs}
 use mathlib.Core.Path.{refl}
 use mathlib.Core.List.{[], _∷_}
-use Rattle.panel.specs.Forms.{form-of}
-use Rattle.panel.specs.Iref.{reference}
+use borrow.Author.Needs.{needs}
 use Rattle.octets.proofs.Stores.{retold}
-use Rattle.items.proofs.write_alpha_auxl.Statement.{statement}
-use Rattle.items.proofs.write_alpha_auxl.Tie as tie
+use Rattle.panel.specs.Form.{form-of}
+use Rattle.heif.specs.Iref.{reference}
+use Rattle.write_iref.proofs.write_alpha_auxl.Statement.{statement}
+use Rattle.write_iref.proofs.write_alpha_auxl.Tie as tie
 
 returns : tie.Need-returns
 returns c =

@@ -1,15 +1,15 @@
 -- A reference to the colour grid, or nothing.
-use borrow.Author.Needs.{needs}
-use native.Mathlib.Omega.{arith}
 use mathlib.Core.Path.{refl, ap}
 use mathlib.Core.Bool.{Bool, cond}
-use Prim.Native.Nat.{ℕ, _+_, _*_}
 use mathlib.Core.List.{[], _∷_}
-use Rattle.panel.specs.Forms.{form-of}
-use Rattle.panel.specs.Iref.{reference}
+use Prim.Native.Nat.{ℕ, _+_, _*_}
+use native.Mathlib.Omega.{arith}
+use borrow.Author.Needs.{needs}
 use Rattle.octets.proofs.Stores.{retold, no-boxes}
-use Rattle.items.proofs.write_exif_ref.Statement.{statement}
-use Rattle.items.proofs.write_exif_ref.Tie as tie
+use Rattle.panel.specs.Form.{form-of}
+use Rattle.heif.specs.Iref.{reference}
+use Rattle.write_iref.proofs.write_exif_ref.Statement.{statement}
+use Rattle.write_iref.proofs.write_exif_ref.Tie as tie
 
 write-ref-requires : tie.Need-write-ref-requires
 write-ref-requires c κs =

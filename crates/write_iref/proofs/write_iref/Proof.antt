@@ -1,18 +1,17 @@
 -- The head and the references.
-use borrow.Author.Needs.{needs}
-use native.Mathlib.Omega.{arith}
 use mathlib.Core.Path.{_≡_, refl, sym, _∙_}
 use mathlib.Core.Bool.{cond}
 use Prim.Native.Nat.{_+_, _*_}
+use native.Mathlib.Omega.{arith}
+use borrow.Author.Needs.{needs}
 use Rattle.octets.proofs.Lists.{cond-mul}
 use Rattle.octets.proofs.Stores.{kept, retold, _▸_}
-use Rattle.panel.specs.Items.{Form}
-use Rattle.panel.specs.Forms.{form-of}
+use Rattle.panel.specs.Form.{Form, form-of}
 use Rattle.panel.specs.declared.Shape.{Shape}
-use Rattle.length.specs.Size.{reference-size, iref-size}
-use Rattle.boxes.proofs.Forms.{raised}
-use Rattle.items.proofs.write_iref.Statement.{statement}
-use Rattle.items.proofs.write_iref.Tie as tie
+use Rattle.heif.specs.Iref.{reference-size, iref-size}
+use Rattle.write_ids.proofs.Forms.{raised}
+use Rattle.write_iref.proofs.write_iref.Statement.{statement}
+use Rattle.write_iref.proofs.write_iref.Tie as tie
 
 size-of : (f : Form) (s : Shape)
     → 12 + ((10 + f .id + f .id * s .tiles) + ((10 + f .id + f .id * s .tiles) + ((10 + 2 * f .id) + (cond (s .exif) (10 + 2 * f .id) 0 + (cond (s .gain) (20 + 4 * f .id) 0 + cond (s .tone) (10 + 3 * f .id) 0))))) ≡ 8 + iref-size f s

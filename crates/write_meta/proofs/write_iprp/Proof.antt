@@ -1,9 +1,9 @@
 -- The head, ipco and ipma.
-use borrow.Author.Needs.{needs}
 use native.Mathlib.Omega.{arith}
+use borrow.Author.Needs.{needs}
 use Rattle.octets.proofs.Stores.{kept, boxed, _▸_}
-use Rattle.isobmff.proofs.meta.write_iprp.Statement.{statement}
-use Rattle.isobmff.proofs.meta.write_iprp.Tie as tie
+use Rattle.write_meta.proofs.write_iprp.Statement.{statement}
+use Rattle.write_meta.proofs.write_iprp.Tie as tie
 
 write-ipco-requires : tie.Need-write-ipco-requires
 write-ipco-requires c κs =

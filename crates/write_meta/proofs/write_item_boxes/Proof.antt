@@ -1,15 +1,15 @@
 -- Five boxes.
-use borrow.Author.Needs.{needs}
-use native.Mathlib.Omega.{arith}
 use mathlib.Core.Path.{refl, ap}
-use Rattle.octets.proofs.Stores.{kept, retold, _▸_}
-use Prim.Native.Nat.{ℕ}
-use Rattle.octets.specs.Numbers.{be}
-use Rattle.panel.specs.Forms.{form-of}
 use mathlib.Core.List.{[], _∷_}
+use Prim.Native.Nat.{ℕ}
+use native.Mathlib.Omega.{arith}
+use borrow.Author.Needs.{needs}
+use Rattle.octets.specs.Numbers.{be}
 use Rattle.octets.specs.Boxes.{full}
-use Rattle.isobmff.proofs.meta.write_item_boxes.Statement.{statement}
-use Rattle.isobmff.proofs.meta.write_item_boxes.Tie as tie
+use Rattle.octets.proofs.Stores.{kept, retold, _▸_}
+use Rattle.panel.specs.Form.{form-of}
+use Rattle.write_meta.proofs.write_item_boxes.Statement.{statement}
+use Rattle.write_meta.proofs.write_item_boxes.Tie as tie
 
 color-grid-id-requires : tie.Need-color-grid-id-requires
 color-grid-id-requires c κs =

@@ -1,9 +1,9 @@
 -- The head, the items and their properties.
-use native.Mathlib.Omega.{arith}
 use mathlib.Core.Path.{_∙_}
+use native.Mathlib.Omega.{arith}
 use Rattle.octets.proofs.Stores.{kept, full-boxed, _▸_}
-use Rattle.isobmff.proofs.meta.write_meta.Statement.{statement}
-use Rattle.isobmff.proofs.meta.write_meta.Tie as tie
+use Rattle.write_meta.proofs.write_meta.Statement.{statement}
+use Rattle.write_meta.proofs.write_meta.Tie as tie
 
 write-fullbox-requires : tie.Need-write-fullbox-requires
 write-fullbox-requires c κs =

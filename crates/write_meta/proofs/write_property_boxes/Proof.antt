@@ -1,9 +1,9 @@
 -- iprp, the groups and idat.
-use borrow.Author.Needs.{needs}
 use native.Mathlib.Omega.{arith}
+use borrow.Author.Needs.{needs}
 use Rattle.octets.proofs.Stores.{kept, _▸_}
-use Rattle.isobmff.proofs.meta.write_property_boxes.Statement.{statement}
-use Rattle.isobmff.proofs.meta.write_property_boxes.Tie as tie
+use Rattle.write_meta.proofs.write_property_boxes.Statement.{statement}
+use Rattle.write_meta.proofs.write_property_boxes.Tie as tie
 
 write-iprp-requires : tie.Need-write-iprp-requires
 write-iprp-requires c κs =

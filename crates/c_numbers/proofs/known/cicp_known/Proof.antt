@@ -1,7 +1,7 @@
 -- Each of the four codes, as the look-ups say.
 use borrow.Author.Needs.{needs}
-use Rattle.numbers.proofs.known.cicp_known.Statement.{statement}
-use Rattle.numbers.proofs.known.cicp_known.Tie as tie
+use Rattle.c_numbers.proofs.known.cicp_known.Statement.{statement}
+use Rattle.c_numbers.proofs.known.cicp_known.Tie as tie
 
 returns : tie.Need-returns
 returns c = cc

@@ -1,7 +1,7 @@
 -- The two bytes, and the code points where they are there.
 use borrow.Author.Needs.{needs}
-use Rattle.numbers.proofs.known.color_known.Statement.{statement}
-use Rattle.numbers.proofs.known.color_known.Tie as tie
+use Rattle.c_numbers.proofs.known.color_known.Statement.{statement}
+use Rattle.c_numbers.proofs.known.color_known.Tie as tie
 
 returns : tie.Need-returns
 returns c = cc

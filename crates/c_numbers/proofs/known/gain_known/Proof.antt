@@ -1,7 +1,7 @@
 -- Code by code, the alternate colour last.
 use borrow.Author.Needs.{needs}
-use Rattle.numbers.proofs.known.gain_known.Statement.{statement}
-use Rattle.numbers.proofs.known.gain_known.Tie as tie
+use Rattle.c_numbers.proofs.known.gain_known.Statement.{statement}
+use Rattle.c_numbers.proofs.known.gain_known.Tie as tie
 
 returns : tie.Need-returns
 returns c = cc

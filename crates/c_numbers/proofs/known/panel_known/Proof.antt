@@ -1,8 +1,8 @@
 -- Part by part, as the calls answer.
 use borrow.Author.Needs.{needs}
-use Rattle.numbers.specs.Known.{panel-known}
-use Rattle.numbers.proofs.known.panel_known.Statement.{statement}
-use Rattle.numbers.proofs.known.panel_known.Tie as tie
+use Rattle.c_numbers.specs.Known.{panel-known}
+use Rattle.c_numbers.proofs.known.panel_known.Statement.{statement}
+use Rattle.c_numbers.proofs.known.panel_known.Tie as tie
 
 returns : tie.Need-returns
 unfolding panel-known

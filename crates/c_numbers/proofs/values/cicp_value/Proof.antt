@@ -1,7 +1,7 @@
 -- The encoding that is named, or the unspecified one.
 use borrow.Author.Needs.{needs}
-use Rattle.numbers.proofs.values.cicp_value.Statement.{statement}
-use Rattle.numbers.proofs.values.cicp_value.Tie as tie
+use Rattle.c_numbers.proofs.values.cicp_value.Statement.{statement}
+use Rattle.c_numbers.proofs.values.cicp_value.Tie as tie
 
 returns : tie.Need-returns
 returns c = cc

@@ -1,8 +1,8 @@
 -- Part by part, as the calls answer.
 use borrow.Author.Needs.{needs}
-use Rattle.numbers.specs.Values.{panel-value}
-use Rattle.numbers.proofs.values.panel_value.Statement.{statement}
-use Rattle.numbers.proofs.values.panel_value.Tie as tie
+use Rattle.c_numbers.specs.Values.{panel-value}
+use Rattle.c_numbers.proofs.values.panel_value.Statement.{statement}
+use Rattle.c_numbers.proofs.values.panel_value.Tie as tie
 
 returns : tie.Need-returns
 unfolding panel-value

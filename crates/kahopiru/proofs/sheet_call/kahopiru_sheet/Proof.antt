@@ -1,7 +1,7 @@
 -- What the sheet's call promises, in numbers.
-use borrow.Author.Needs.{needs}
 use mathlib.Core.Path.{ap, _∙_}
-use Rattle.interface.specs.Told.{told}
+use borrow.Author.Needs.{needs}
+use Rattle.c_types.specs.Told.{told}
 use Rattle.kahopiru.proofs.sheet_call.kahopiru_sheet.Statement.{statement}
 use Rattle.kahopiru.proofs.sheet_call.kahopiru_sheet.Tie as tie
 

@@ -1,9 +1,9 @@
 -- By what is answered.
-use borrow.Author.Needs.{needs}
 use mathlib.Core.Path.{sym, ap}
+use borrow.Author.Needs.{needs}
 use Rattle.sheet_file.specs.Says.{sheet-says}
 use Rattle.sheet_file.specs.declared.SheetAnswer.{SheetAnswer}
-use Rattle.interface.specs.Told.{told}
+use Rattle.c_types.specs.Told.{told}
 use Rattle.kahopiru.proofs.sheet_call.tell_sheet.Statement.{statement}
 use Rattle.kahopiru.proofs.sheet_call.tell_sheet.Tie as tie
 

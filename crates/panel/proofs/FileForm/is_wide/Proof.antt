@@ -1,6 +1,6 @@
 -- By the form.
 use mathlib.Core.Path.{refl}
-use Rattle.panel.proofs.Forms.{only-ordinary}
+use Rattle.panel.proofs.Form.{only-ordinary}
 use Rattle.panel.proofs.FileForm.is_wide.Statement.{statement}
 use Rattle.panel.proofs.FileForm.is_wide.Tie as tie
 

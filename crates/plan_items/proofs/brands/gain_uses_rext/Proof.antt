@@ -1,7 +1,7 @@
 -- By the variant, and the record lent.
 use borrow.Author.Needs.{needs}
-use Rattle.sizes.proofs.gain_uses_rext.Statement.{statement}
-use Rattle.sizes.proofs.gain_uses_rext.Tie as tie
+use Rattle.plan_items.proofs.brands.gain_uses_rext.Statement.{statement}
+use Rattle.plan_items.proofs.brands.gain_uses_rext.Tie as tie
 
 returns : tie.Need-returns
 returns c =

@@ -1,9 +1,9 @@
 -- A record of fewer than two bytes has no profile.
-use borrow.Author.Needs.{needs}
 use mathlib.Core.Path.{sym}
-use Rattle.boxes.proofs.Tests.{rext-short}
-use Rattle.boxes.proofs.ftyp.hvcc_uses_rext.Statement.{statement}
-use Rattle.boxes.proofs.ftyp.hvcc_uses_rext.Tie as tie
+use borrow.Author.Needs.{needs}
+use Rattle.plan_items.proofs.Records.{rext-short}
+use Rattle.plan_items.proofs.brands.hvcc_uses_rext.Statement.{statement}
+use Rattle.plan_items.proofs.brands.hvcc_uses_rext.Tie as tie
 
 returns : tie.Need-returns
 returns c =

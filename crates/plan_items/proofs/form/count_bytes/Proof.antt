@@ -1,9 +1,9 @@
 -- By the test.
-use borrow.Author.Needs.{needs}
 use native.Mathlib.Omega.{arith}
-use Rattle.panel.proofs.Forms.{tested}
-use Rattle.boxes.proofs.form.count_bytes.Statement.{statement}
-use Rattle.boxes.proofs.form.count_bytes.Tie as tie
+use borrow.Author.Needs.{needs}
+use Rattle.panel.proofs.Form.{tested}
+use Rattle.plan_items.proofs.form.count_bytes.Statement.{statement}
+use Rattle.plan_items.proofs.form.count_bytes.Tie as tie
 
 returns : tie.Need-returns
 returns c = omega (arith, tested (c .before .is-wide .ensures) (c .if1 .taken) .count)

@@ -1,11 +1,11 @@
 -- By the test.
-use borrow.Author.Needs.{needs}
-use native.Mathlib.Omega.{arith}
 use mathlib.Core.Path.{ap}
 use Prim.Native.Nat.{ℕ, _*_}
-use Rattle.panel.proofs.Forms.{tested}
-use Rattle.boxes.proofs.form.ids_bytes.Statement.{statement}
-use Rattle.boxes.proofs.form.ids_bytes.Tie as tie
+use native.Mathlib.Omega.{arith}
+use borrow.Author.Needs.{needs}
+use Rattle.panel.proofs.Form.{tested}
+use Rattle.plan_items.proofs.form.ids_bytes.Statement.{statement}
+use Rattle.plan_items.proofs.form.ids_bytes.Tie as tie
 
 returns : tie.Need-returns
 returns c =

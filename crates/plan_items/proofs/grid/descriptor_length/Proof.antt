@@ -1,9 +1,9 @@
 -- A wide grid has the longer one.
-use borrow.Author.Needs.{needs}
-use native.Mathlib.Omega.{arith}
 use mathlib.Core.Path.{sym, _∙_}
-use Rattle.grids.proofs.descriptor_length.Statement.{statement}
-use Rattle.grids.proofs.descriptor_length.Tie as tie
+use native.Mathlib.Omega.{arith}
+use borrow.Author.Needs.{needs}
+use Rattle.plan_items.proofs.grid.descriptor_length.Statement.{statement}
+use Rattle.plan_items.proofs.grid.descriptor_length.Tie as tie
 
 returns : tie.Need-returns
 returns c =

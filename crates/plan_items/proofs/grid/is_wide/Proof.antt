@@ -1,8 +1,8 @@
 -- The width decides, or else the height.
 use native.Mathlib.Omega.{arith}
-use Rattle.grids.proofs.Wide.{by-width, by-height}
-use Rattle.grids.proofs.is_wide.Statement.{statement}
-use Rattle.grids.proofs.is_wide.Tie as tie
+use Rattle.plan_items.proofs.Wide.{by-width, by-height}
+use Rattle.plan_items.proofs.grid.is_wide.Statement.{statement}
+use Rattle.plan_items.proofs.grid.is_wide.Tie as tie
 
 returns : tie.Need-returns
 returns c = by-width (c .before .before .args .d) (omega (arith, c .if1 .taken))

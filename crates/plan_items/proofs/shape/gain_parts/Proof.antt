@@ -1,8 +1,8 @@
 -- By the variant; of a gain map, by its part.
-use borrow.Author.Needs.{needs}
 use mathlib.Core.Path.{refl}
-use Rattle.checks.proofs.shape.gain_parts.Statement.{statement}
-use Rattle.checks.proofs.shape.gain_parts.Tie as tie
+use borrow.Author.Needs.{needs}
+use Rattle.plan_items.proofs.shape.gain_parts.Statement.{statement}
+use Rattle.plan_items.proofs.shape.gain_parts.Tie as tie
 
 returns : tie.Need-returns
 returns c =

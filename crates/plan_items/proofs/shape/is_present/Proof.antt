@@ -1,7 +1,7 @@
 -- By the variant.
 use borrow.Author.Needs.{needs}
-use Rattle.checks.proofs.shape.is_present.Statement.{statement}
-use Rattle.checks.proofs.shape.is_present.Tie as tie
+use Rattle.plan_items.proofs.shape.is_present.Statement.{statement}
+use Rattle.plan_items.proofs.shape.is_present.Tie as tie
 
 returns : tie.Need-returns
 returns c =

@@ -1,9 +1,9 @@
 -- Field by field.
-use borrow.Author.Needs.{needs}
 use mathlib.Core.Path.{refl, sym}
+use borrow.Author.Needs.{needs}
 use Rattle.panel.specs.Of.{panel-of}
-use Rattle.checks.proofs.shape.shape_of.Statement.{statement}
-use Rattle.checks.proofs.shape.shape_of.Tie as tie
+use Rattle.plan_items.proofs.shape.shape_of.Statement.{statement}
+use Rattle.plan_items.proofs.shape.shape_of.Tie as tie
 
 returns : tie.Need-returns
 unfolding panel-of

@@ -1,10 +1,10 @@
 -- An id, a count and one byte for each property, for each tile and for the grid.
-use borrow.Author.Needs.{needs}
+use Prim.Native.Nat.{_+_, _≤_}
 use native.Mathlib.Omega.{arith}
 use native.Mathlib.Nat.{mul-le-mul}
-use Prim.Native.Nat.{_+_, _≤_}
-use Rattle.places.proofs.associations.entries_size.Statement.{statement}
-use Rattle.places.proofs.associations.entries_size.Tie as tie
+use borrow.Author.Needs.{needs}
+use Rattle.plan_positions.proofs.associations.entries_size.Statement.{statement}
+use Rattle.plan_positions.proofs.associations.entries_size.Tie as tie
 
 mul-result : tie.Need-mul-result
 mul-result c =

@@ -1,12 +1,12 @@
 -- The head, the entries of each picture, and those of the gain image and the tone map, where they are.
-use borrow.Author.Needs.{needs}
-use native.Mathlib.Omega.{arith}
 use mathlib.Core.Path.{_≡_, _∙_}
 use mathlib.Core.Bool.{cond}
 use Prim.Native.Nat.{ℕ, _+_}
-use Rattle.panel.specs.Forms.{form-of}
-use Rattle.places.proofs.associations.ipma_bytes.Statement.{statement}
-use Rattle.places.proofs.associations.ipma_bytes.Tie as tie
+use native.Mathlib.Omega.{arith}
+use borrow.Author.Needs.{needs}
+use Rattle.panel.specs.Form.{form-of}
+use Rattle.plan_positions.proofs.associations.ipma_bytes.Statement.{statement}
+use Rattle.plan_positions.proofs.associations.ipma_bytes.Tie as tie
 
 image-count-requires : tie.Need-image-count-requires
 image-count-requires c κs =

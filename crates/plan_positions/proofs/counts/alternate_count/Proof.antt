@@ -1,8 +1,8 @@
 -- What it states, or nothing.
-use borrow.Author.Needs.{needs}
 use native.Mathlib.Omega.{arith}
-use Rattle.places.proofs.counts.alternate_count.Statement.{statement}
-use Rattle.places.proofs.counts.alternate_count.Tie as tie
+use borrow.Author.Needs.{needs}
+use Rattle.plan_positions.proofs.counts.alternate_count.Statement.{statement}
+use Rattle.plan_positions.proofs.counts.alternate_count.Tie as tie
 
 returns : tie.Need-returns
 returns c =

@@ -1,11 +1,11 @@
 -- A profile beside code points, or nothing.
-use borrow.Author.Needs.{needs}
-use native.Mathlib.Omega.{arith}
 use mathlib.Core.Path.{ap, _∙_}
 use mathlib.Core.Bool.{Bool, cond}
 use Prim.Native.Nat.{ℕ}
-use Rattle.places.proofs.counts.secondary_colr_count.Statement.{statement}
-use Rattle.places.proofs.counts.secondary_colr_count.Tie as tie
+use native.Mathlib.Omega.{arith}
+use borrow.Author.Needs.{needs}
+use Rattle.plan_positions.proofs.counts.secondary_colr_count.Statement.{statement}
+use Rattle.plan_positions.proofs.counts.secondary_colr_count.Tie as tie
 
 returns : tie.Need-returns
 returns c =

@@ -1,11 +1,11 @@
 -- Code points, and a profile.
-use borrow.Author.Needs.{needs}
-use native.Mathlib.Omega.{arith}
 use mathlib.Core.Path.{ap}
 use mathlib.Core.Bool.{Bool, cond}
 use Prim.Native.Nat.{ℕ}
-use Rattle.places.proofs.counts.stated_count.Statement.{statement}
-use Rattle.places.proofs.counts.stated_count.Tie as tie
+use native.Mathlib.Omega.{arith}
+use borrow.Author.Needs.{needs}
+use Rattle.plan_positions.proofs.counts.stated_count.Statement.{statement}
+use Rattle.plan_positions.proofs.counts.stated_count.Tie as tie
 
 returns : tie.Need-returns
 returns c =

@@ -38,25 +38,25 @@ use denote.Triple.Clauses.{ensured, lasts}
 use denote.Triple.Table.{entered, cited}
 use denote.Triple.Walked.{says, needs, Stays, stay-none, walkOf, AllGo, goes-none, Walks, ends-at, walked, walk-meets}
 use denote.Exit.{yes}
-use Rattle.places.specs.Places.{gain-at, behind-gain}
-use Rattle.places.specs.declared.gain.GainPlaces.{GainPlaces}
-use Rattle.places.specs.declared.gain.PlacedGain.{PlacedGain}
-use Rattle.places.proofs.Machine.{mach, is-record, first-fits, next-fits, Counts, counts-at, Bytes, counts-own}
-use Rattle.gain_positions.specs.declared.Positions.{Positions}
-use Rattle.gain_positions.proofs.Positions as T
-use Rattle.gain_positions.proofs.Positions.Laws as T′
-use Rattle.places.proofs.gain.GainPlaces as G
-use Rattle.places.proofs.gain.GainPlaces.Laws as G′
-use Rattle.places.proofs.gain.PlacedGain as R
-use Rattle.places.proofs.gain.PlacedGain.Laws as R′
-use Rattle.places.proofs.gain.place_gain as lent
-use Rattle.places.proofs.gain.place_gain.Symbol as lent-def
-use Rattle.places.proofs.gain.place_gain.Symbol.{name as #places·gain·place-gain}
-use Rattle.places.proofs.gain.place_gain.Met as lent-thm
-use Rattle.places.proofs.gain.gain_from.Key.{name as #places·gain·gain-from}
-use Rattle.places.proofs.gain.gain_from as gain-from
-use Rattle.places.proofs.gain.gain_from.Statement as stated
-use Rattle.places.proofs.gain.gain_from.Code as code
+use Rattle.plan_runs.specs.declared.Positions.{Positions}
+use Rattle.plan_runs.proofs.Positions as T
+use Rattle.plan_runs.proofs.Positions.Laws as T′
+use Rattle.plan_positions.specs.Gain.{gain-at, behind-gain}
+use Rattle.plan_positions.specs.declared.gain.GainPlaces.{GainPlaces}
+use Rattle.plan_positions.specs.declared.gain.PlacedGain.{PlacedGain}
+use Rattle.plan_positions.proofs.Machine.{mach, is-record, first-fits, next-fits, Counts, counts-at, Bytes, counts-own}
+use Rattle.plan_positions.proofs.gain.GainPlaces as G
+use Rattle.plan_positions.proofs.gain.GainPlaces.Laws as G′
+use Rattle.plan_positions.proofs.gain.PlacedGain as R
+use Rattle.plan_positions.proofs.gain.PlacedGain.Laws as R′
+use Rattle.plan_positions.proofs.gain.place_gain as lent
+use Rattle.plan_positions.proofs.gain.place_gain.Symbol as lent-def
+use Rattle.plan_positions.proofs.gain.place_gain.Symbol.{name as #places·gain·place-gain}
+use Rattle.plan_positions.proofs.gain.place_gain.Met as lent-thm
+use Rattle.plan_positions.proofs.gain.gain_from.Key.{name as #places·gain·gain-from}
+use Rattle.plan_positions.proofs.gain.gain_from as gain-from
+use Rattle.plan_positions.proofs.gain.gain_from.Statement as stated
+use Rattle.plan_positions.proofs.gain.gain_from.Code as code
 
 abbrev Arg : Type 0
 Arg = Positions × Counts
@@ -193,4 +193,4 @@ gain-from-spec 𝓤 H 𝓜 𝓖 𝓡 =
     entered 𝓤 H (tripleOf 𝓤 H (𝓖 .A) gain-from.signature (gain-from.spec 𝓤 H (𝓖 .A) (𝓜 .mem) (𝓡 .run)))
     (tables 𝓤 H 𝓜 𝓡 code.env .C) (tables 𝓤 H 𝓜 𝓡 code.env .Λ) #places·gain·gain-from code.function (code.unfolded 𝓤 H 𝓜 𝓡)
     (gain-from-meets 𝓤 H (𝓖 .A) (givenOf 𝓤 H 𝓜 𝓖) (𝓜 .mem) (𝓡 .run) (tablesOf 𝓤 H 𝓜 (tables 𝓤 H 𝓜 𝓡 code.env))
-    (cited 𝓤 H (Lent 𝓤 H (𝓖 .A) (𝓜 .mem) (𝓡 .run)) 𝓜 𝓡 code.env #places·gain·place-gain lent-def.routine code.calls-places·gain·place-gain (lent-thm.met 𝓤 H 𝓜 𝓖 𝓡)))
+    (cited 𝓤 H (Lent 𝓤 H (𝓖 .A) (𝓜 .mem) (𝓡 .run)) 𝓜 𝓡 code.env #places·gain·place-gain lent-def.routine code.calls-plan-positions·gain·place-gain (lent-thm.met 𝓤 H 𝓜 𝓖 𝓡)))

@@ -1,10 +1,10 @@
 -- The tone map's properties lie behind the gain image's.
-use borrow.Author.Needs.{needs}
 use mathlib.Core.Path.{ap, _∙_}
 use Prim.Native.Nat.{ℕ}
-use Rattle.gain_positions.specs.Positions.{tone-at, behind-tone}
-use Rattle.places.proofs.gain.gain_places.Statement.{statement}
-use Rattle.places.proofs.gain.gain_places.Tie as tie
+use borrow.Author.Needs.{needs}
+use Rattle.plan_runs.specs.GainMap.{tone-at, behind-tone}
+use Rattle.plan_positions.proofs.gain.gain_places.Statement.{statement}
+use Rattle.plan_positions.proofs.gain.gain_places.Tie as tie
 
 returns : tie.Need-returns
 returns c =

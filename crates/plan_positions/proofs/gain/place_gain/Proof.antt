@@ -37,25 +37,25 @@ use denote.Triple.Clauses.{ensured, lasts}
 use denote.Triple.Table.{entered, cited}
 use denote.Triple.Walked.{says, needs, Stays, stay-ref, stay-none, walkOf, AllGo, goes-ref, goes-none, Walks, ends-at, walked, walk-meets}
 use denote.Exit.{yes}
-use Rattle.places.specs.Places.{gain-at, behind-gain}
-use Rattle.places.specs.declared.gain.GainPlaces.{GainPlaces}
-use Rattle.places.specs.declared.gain.PlacedGain.{PlacedGain}
-use Rattle.places.proofs.Machine.{mach, is-record, first-fits, next-fits, Counts, counts-at, Bytes, counts-own}
-use Rattle.gain_positions.specs.declared.Positions.{Positions}
-use Rattle.gain_positions.proofs.Positions as T
-use Rattle.gain_positions.proofs.Positions.Laws as T′
-use Rattle.places.proofs.gain.GainPlaces as G
-use Rattle.places.proofs.gain.GainPlaces.Laws as G′
-use Rattle.places.proofs.gain.PlacedGain as R
-use Rattle.places.proofs.gain.PlacedGain.Laws as R′
-use Rattle.places.proofs.gain.gain_places as core
-use Rattle.places.proofs.gain.gain_places.Symbol as core-def
-use Rattle.places.proofs.gain.gain_places.Symbol.{name as #places·gain·gain-places}
-use Rattle.places.proofs.gain.gain_places.Met as core-thm
-use Rattle.places.proofs.gain.place_gain.Key.{name as #places·gain·place-gain}
-use Rattle.places.proofs.gain.place_gain as place-gain
-use Rattle.places.proofs.gain.place_gain.Statement as stated
-use Rattle.places.proofs.gain.place_gain.Code as code
+use Rattle.plan_runs.specs.declared.Positions.{Positions}
+use Rattle.plan_runs.proofs.Positions as T
+use Rattle.plan_runs.proofs.Positions.Laws as T′
+use Rattle.plan_positions.specs.Gain.{gain-at, behind-gain}
+use Rattle.plan_positions.specs.declared.gain.GainPlaces.{GainPlaces}
+use Rattle.plan_positions.specs.declared.gain.PlacedGain.{PlacedGain}
+use Rattle.plan_positions.proofs.Machine.{mach, is-record, first-fits, next-fits, Counts, counts-at, Bytes, counts-own}
+use Rattle.plan_positions.proofs.gain.GainPlaces as G
+use Rattle.plan_positions.proofs.gain.GainPlaces.Laws as G′
+use Rattle.plan_positions.proofs.gain.PlacedGain as R
+use Rattle.plan_positions.proofs.gain.PlacedGain.Laws as R′
+use Rattle.plan_positions.proofs.gain.gain_places as core
+use Rattle.plan_positions.proofs.gain.gain_places.Symbol as core-def
+use Rattle.plan_positions.proofs.gain.gain_places.Symbol.{name as #places·gain·gain-places}
+use Rattle.plan_positions.proofs.gain.gain_places.Met as core-thm
+use Rattle.plan_positions.proofs.gain.place_gain.Key.{name as #places·gain·place-gain}
+use Rattle.plan_positions.proofs.gain.place_gain as place-gain
+use Rattle.plan_positions.proofs.gain.place_gain.Statement as stated
+use Rattle.plan_positions.proofs.gain.place_gain.Code as code
 
 abbrev Arg : Type 0
 Arg = RefT Positions × Counts
@@ -175,4 +175,4 @@ place-gain-spec 𝓤 H 𝓜 𝓖 𝓡 =
     entered 𝓤 H (tripleOf 𝓤 H (𝓖 .A) place-gain.signature (place-gain.spec 𝓤 H (𝓖 .A) (𝓜 .mem) (𝓡 .run)))
     (tables 𝓤 H 𝓜 𝓡 code.env .C) (tables 𝓤 H 𝓜 𝓡 code.env .Λ) #places·gain·place-gain code.function (code.unfolded 𝓤 H 𝓜 𝓡)
     (place-gain-meets 𝓤 H (𝓖 .A) (givenOf 𝓤 H 𝓜 𝓖) (𝓜 .mem) (𝓡 .run) (tablesOf 𝓤 H 𝓜 (tables 𝓤 H 𝓜 𝓡 code.env))
-    (cited 𝓤 H (Core 𝓤 H (𝓖 .A) (𝓜 .mem) (𝓡 .run)) 𝓜 𝓡 code.env #places·gain·gain-places core-def.routine code.calls-places·gain·gain-places (core-thm.met 𝓤 H 𝓜 𝓖 𝓡)))
+    (cited 𝓤 H (Core 𝓤 H (𝓖 .A) (𝓜 .mem) (𝓡 .run)) 𝓜 𝓡 code.env #places·gain·gain-places core-def.routine code.calls-plan-positions·gain·gain-places (core-thm.met 𝓤 H 𝓜 𝓖 𝓡)))

@@ -1,7 +1,7 @@
 -- Each length is capped.
 use borrow.Author.Needs.{needs}
-use Rattle.sizes.proofs.lengths.lengths_of.Statement.{statement}
-use Rattle.sizes.proofs.lengths.lengths_of.Tie as tie
+use Rattle.plan_sizes.proofs.lengths.lengths_of.Statement.{statement}
+use Rattle.plan_sizes.proofs.lengths.lengths_of.Tie as tie
 
 returns : tie.Need-returns
 returns c =

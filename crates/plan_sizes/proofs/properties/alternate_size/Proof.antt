@@ -1,9 +1,9 @@
 -- What it states, or nothing.
-use borrow.Author.Needs.{needs}
 use native.Mathlib.Omega.{arith}
-use Rattle.sizes.proofs.Caps.{exact}
-use Rattle.sizes.proofs.properties.alternate_size.Statement.{statement}
-use Rattle.sizes.proofs.properties.alternate_size.Tie as tie
+use borrow.Author.Needs.{needs}
+use Rattle.plan_sizes.proofs.Caps.{exact}
+use Rattle.plan_sizes.proofs.properties.alternate_size.Statement.{statement}
+use Rattle.plan_sizes.proofs.properties.alternate_size.Tie as tie
 
 returns : tie.Need-returns
 returns c =

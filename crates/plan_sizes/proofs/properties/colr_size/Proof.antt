@@ -1,9 +1,9 @@
 -- Code points, or what stands for them.
-use borrow.Author.Needs.{needs}
 use native.Mathlib.Omega.{arith}
-use Rattle.sizes.proofs.Caps.{exact}
-use Rattle.sizes.proofs.properties.colr_size.Statement.{statement}
-use Rattle.sizes.proofs.properties.colr_size.Tie as tie
+use borrow.Author.Needs.{needs}
+use Rattle.plan_sizes.proofs.Caps.{exact}
+use Rattle.plan_sizes.proofs.properties.colr_size.Statement.{statement}
+use Rattle.plan_sizes.proofs.properties.colr_size.Tie as tie
 
 returns : tie.Need-returns
 returns c =

@@ -1,9 +1,9 @@
 -- Nothing, or five properties and those of the tone map.
-use borrow.Author.Needs.{needs}
 use native.Mathlib.Omega.{arith}
-use Rattle.sizes.proofs.Caps.{_⊕_, exact, renamed}
-use Rattle.sizes.proofs.properties.gain_properties_size.Statement.{statement}
-use Rattle.sizes.proofs.properties.gain_properties_size.Tie as tie
+use borrow.Author.Needs.{needs}
+use Rattle.plan_sizes.proofs.Caps.{_⊕_, exact, renamed}
+use Rattle.plan_sizes.proofs.properties.gain_properties_size.Statement.{statement}
+use Rattle.plan_sizes.proofs.properties.gain_properties_size.Tie as tie
 
 returns : tie.Need-returns
 returns c =

@@ -1,13 +1,13 @@
 -- A head for each property, and what they hold: with its head, each is what the definition has of it.
-use borrow.Author.Needs.{needs}
-use native.Mathlib.Omega.{arith}
 use mathlib.Core.Path.{_≡_}
 use Prim.Native.Nat.{_+_, _*_}
-use Rattle.sizes.proofs.Caps.{_⊕_, exact, renamed}
+use native.Mathlib.Omega.{arith}
+use borrow.Author.Needs.{needs}
 use Rattle.panel.specs.Of.{panel-of}
-use Rattle.places.proofs.Counted.{irot-placed, imir-placed, clli-placed, all-placed}
-use Rattle.sizes.proofs.properties.ipco_size.Statement.{statement}
-use Rattle.sizes.proofs.properties.ipco_size.Tie as tie
+use Rattle.plan_positions.proofs.Counted.{irot-placed, imir-placed, clli-placed, all-placed}
+use Rattle.plan_sizes.proofs.Caps.{_⊕_, exact, renamed}
+use Rattle.plan_sizes.proofs.properties.ipco_size.Statement.{statement}
+use Rattle.plan_sizes.proofs.properties.ipco_size.Tie as tie
 
 returns : tie.Need-returns
 unfolding panel-of

@@ -1,10 +1,10 @@
 -- Code points, or the profile.
-use borrow.Author.Needs.{needs}
-use native.Mathlib.Omega.{arith}
 use mathlib.Core.Path.{refl}
-use Rattle.sizes.proofs.Caps.{_⊕_, exact, renamed}
-use Rattle.sizes.proofs.properties.profile_or_unspecified_size.Statement.{statement}
-use Rattle.sizes.proofs.properties.profile_or_unspecified_size.Tie as tie
+use native.Mathlib.Omega.{arith}
+use borrow.Author.Needs.{needs}
+use Rattle.plan_sizes.proofs.Caps.{_⊕_, exact, renamed}
+use Rattle.plan_sizes.proofs.properties.profile_or_unspecified_size.Statement.{statement}
+use Rattle.plan_sizes.proofs.properties.profile_or_unspecified_size.Tie as tie
 
 returns : tie.Need-returns
 returns c =

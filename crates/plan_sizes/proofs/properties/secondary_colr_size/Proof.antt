@@ -1,13 +1,13 @@
 -- A profile beside code points, or nothing.
-use borrow.Author.Needs.{needs}
-use native.Mathlib.Omega.{arith}
 use mathlib.Core.Path.{refl}
+use native.Mathlib.Omega.{arith}
+use borrow.Author.Needs.{needs}
 use Rattle.octets.proofs.Lists.{cond-mul}
-use Rattle.panel.specs.Items.{has}
+use Rattle.panel.specs.Parts.{has}
 use Rattle.panel.specs.Of.{part}
-use Rattle.sizes.proofs.Caps.{_⊕_, exact, renamed}
-use Rattle.sizes.proofs.properties.secondary_colr_size.Statement.{statement}
-use Rattle.sizes.proofs.properties.secondary_colr_size.Tie as tie
+use Rattle.plan_sizes.proofs.Caps.{_⊕_, exact, renamed}
+use Rattle.plan_sizes.proofs.properties.secondary_colr_size.Statement.{statement}
+use Rattle.plan_sizes.proofs.properties.secondary_colr_size.Tie as tie
 
 returns : tie.Need-returns
 returns c =

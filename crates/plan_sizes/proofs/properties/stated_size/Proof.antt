@@ -1,15 +1,15 @@
 -- Code points, and a profile.
-use borrow.Author.Needs.{needs}
-use native.Mathlib.Omega.{arith}
 use mathlib.Core.Path.{_≡_, ap, _∙_}
 use mathlib.Core.Bool.{Bool, cond}
 use Prim.Native.Nat.{ℕ, _+_, _*_}
+use native.Mathlib.Omega.{arith}
+use borrow.Author.Needs.{needs}
 use Rattle.octets.proofs.Lists.{cond-mul}
-use Rattle.panel.specs.Items.{has}
+use Rattle.panel.specs.Parts.{has}
 use Rattle.panel.specs.Of.{part, cicp-of}
-use Rattle.sizes.proofs.Caps.{_⊕_, exact, renamed}
-use Rattle.sizes.proofs.properties.stated_size.Statement.{statement}
-use Rattle.sizes.proofs.properties.stated_size.Tie as tie
+use Rattle.plan_sizes.proofs.Caps.{_⊕_, exact, renamed}
+use Rattle.plan_sizes.proofs.properties.stated_size.Statement.{statement}
+use Rattle.plan_sizes.proofs.properties.stated_size.Tie as tie
 
 returns : tie.Need-returns
 returns c =

@@ -1,10 +1,10 @@
 -- Nothing, or size, depth and the alternate colour.
-use borrow.Author.Needs.{needs}
-use native.Mathlib.Omega.{arith}
 use mathlib.Core.Path.{refl}
-use Rattle.sizes.proofs.Caps.{_⊕_, exact, renamed}
-use Rattle.sizes.proofs.properties.tone_properties_size.Statement.{statement}
-use Rattle.sizes.proofs.properties.tone_properties_size.Tie as tie
+use native.Mathlib.Omega.{arith}
+use borrow.Author.Needs.{needs}
+use Rattle.plan_sizes.proofs.Caps.{_⊕_, exact, renamed}
+use Rattle.plan_sizes.proofs.properties.tone_properties_size.Statement.{statement}
+use Rattle.plan_sizes.proofs.properties.tone_properties_size.Tie as tie
 
 returns : tie.Need-returns
 returns c =

@@ -1,8 +1,8 @@
 -- Eight ids.
-use borrow.Author.Needs.{needs}
 use Prim.Native.Nat.{_≤_, _-_}
-use Rattle.stored_files.proofs.lookups.print_tiles.Statement.{statement}
-use Rattle.stored_files.proofs.lookups.print_tiles.Tie as tie
+use borrow.Author.Needs.{needs}
+use Rattle.program_files.proofs.lookups.print_tiles.Statement.{statement}
+use Rattle.program_files.proofs.lookups.print_tiles.Tie as tie
 
 abbrev Inv-loop : tie.InvT-loop
 Inv-loop color-lengths alpha-lengths color-samples alpha-samples id₀ id = id ≤ 8

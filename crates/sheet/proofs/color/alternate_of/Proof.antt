@@ -1,6 +1,6 @@
 -- By whether the code points are there.
-use borrow.Author.Needs.{needs}
 use mathlib.Core.Path.{sym, ap, _∙_}
+use borrow.Author.Needs.{needs}
 use Rattle.panel.specs.Of.{part, cicp-of}
 use Rattle.panel.specs.Agreement.{filled}
 use Rattle.sheet.proofs.color.alternate_of.Statement.{statement}

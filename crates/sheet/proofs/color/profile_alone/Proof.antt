@@ -1,7 +1,7 @@
 -- By whether the profile is there.
-use borrow.Author.Needs.{needs}
 use mathlib.Core.Path.{sym, ap}
 use mathlib.Core.Option.{none}
+use borrow.Author.Needs.{needs}
 use Rattle.panel.specs.Of.{part}
 use Rattle.panel.specs.Agreement.{filled}
 use Rattle.sheet.proofs.color.profile_alone.Statement.{statement}

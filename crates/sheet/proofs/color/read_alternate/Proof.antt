@@ -1,8 +1,8 @@
 -- The colour, and whether it states anything.
-use borrow.Author.Needs.{needs}
 use mathlib.Core.Path.{sym}
-use Rattle.sheet.specs.Sheet.{alternate}
+use borrow.Author.Needs.{needs}
 use Rattle.sheet_fields.proofs.Reading.{goes-on, done, as-well}
+use Rattle.sheet.specs.Sheet.{alternate}
 use Rattle.sheet.proofs.color.read_alternate.Statement.{statement}
 use Rattle.sheet.proofs.color.read_alternate.Tie as tie
 

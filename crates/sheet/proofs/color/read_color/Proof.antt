@@ -1,10 +1,10 @@
 -- The code points, dropped where their bit is off, and the profile.
-use borrow.Author.Needs.{needs}
 use mathlib.Core.Path.{refl}
+use borrow.Author.Needs.{needs}
 use Rattle.panel.specs.Of.{cicp-of}
 use Rattle.panel.specs.declared.color.MaybeCicp.the-variants as C
-use Rattle.sheet.specs.Sheet.{colour}
 use Rattle.sheet_fields.proofs.Reading.{goes-on, done, stands}
+use Rattle.sheet.specs.Sheet.{colour}
 use Rattle.sheet.proofs.color.read_color.Statement.{statement}
 use Rattle.sheet.proofs.color.read_color.Tie as tie
 

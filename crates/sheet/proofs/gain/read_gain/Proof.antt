@@ -1,10 +1,10 @@
 -- The gain map's own fields, the tone map, the alternate colour; all dropped where the gain map's bit is off.
-use borrow.Author.Needs.{needs}
 use mathlib.Core.Path.{refl}
+use borrow.Author.Needs.{needs}
 use Rattle.panel.specs.declared.gain_map.MaybeGainMap.the-variants as G
+use Rattle.sheet_fields.proofs.Reading.{goes-on, done, stands}
 use Rattle.sheet.specs.Sheet.{gain}
 use Rattle.sheet.specs.Said.{maybe-gain-said}
-use Rattle.sheet_fields.proofs.Reading.{goes-on, done, stands}
 use Rattle.sheet.proofs.gain.read_gain.Statement.{statement}
 use Rattle.sheet.proofs.gain.read_gain.Tie as tie
 

@@ -1,7 +1,7 @@
 -- Field by field.
 use borrow.Author.Needs.{needs}
-use Rattle.sheet.specs.Sheet.{image}
 use Rattle.sheet_fields.proofs.Reading.{goes-on, done}
+use Rattle.sheet.specs.Sheet.{image}
 use Rattle.sheet.proofs.gain.read_image.Statement.{statement}
 use Rattle.sheet.proofs.gain.read_image.Tie as tie
 

@@ -1,10 +1,10 @@
 -- Both numbers, dropped where their bit is off.
-use borrow.Author.Needs.{needs}
 use mathlib.Core.Path.{refl}
+use borrow.Author.Needs.{needs}
 use Rattle.panel.specs.Of.{light-of}
 use Rattle.panel.specs.declared.metadata.MaybeLightLevel.the-variants as L
-use Rattle.sheet.specs.Sheet.{light}
 use Rattle.sheet_fields.proofs.Reading.{goes-on, done, stands}
+use Rattle.sheet.specs.Sheet.{light}
 use Rattle.sheet.proofs.metadata.read_light.Statement.{statement}
 use Rattle.sheet.proofs.metadata.read_light.Tie as tie
 

@@ -1,7 +1,7 @@
 -- Field by field.
 use borrow.Author.Needs.{needs}
-use Rattle.sheet.specs.Sheet.{metadata}
 use Rattle.sheet_fields.proofs.Reading.{goes-on, done}
+use Rattle.sheet.specs.Sheet.{metadata}
 use Rattle.sheet.proofs.metadata.read_metadata.Statement.{statement}
 use Rattle.sheet.proofs.metadata.read_metadata.Tie as tie
 

@@ -1,9 +1,9 @@
 -- What the number stands for, dropped where its bit is off.
-use borrow.Author.Needs.{needs}
 use mathlib.Core.Path.{refl, sym, ap, _∙_}
 use mathlib.Core.Option.{Option·getD}
+use borrow.Author.Needs.{needs}
 use Rattle.panel.specs.declared.metadata.Orientation.the-variants.{Normal}
-use Rattle.codes.specs.Codes.{orientation-named}
+use Rattle.panel_codes.specs.Codes.{orientation-named}
 use Rattle.sheet_fields.proofs.Reading.{as-well, names}
 use Rattle.sheet.proofs.Fields.{turned}
 use Rattle.sheet.proofs.metadata.read_oriented.Statement.{statement}

@@ -1,7 +1,7 @@
 -- Field by field; the bytes run for the sum of the lengths.
 use borrow.Author.Needs.{needs}
-use Rattle.sheet.specs.Sheet.{two-pictures}
 use Rattle.sheet_fields.proofs.Reading.{goes-on, done}
+use Rattle.sheet.specs.Sheet.{two-pictures}
 use Rattle.sheet.proofs.Fields.{by-sum}
 use Rattle.sheet.proofs.picture.read_pictures.Statement.{statement}
 use Rattle.sheet.proofs.picture.read_pictures.Tie as tie

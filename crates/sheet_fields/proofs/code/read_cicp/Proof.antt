@@ -1,8 +1,8 @@
 -- Code by code, by their numbers.
-use borrow.Author.Needs.{needs}
 use mathlib.Core.Path.{sym, ap, _∙_}
 use mathlib.Core.Option.{Option·getD}
-use Rattle.panel.specs.Agreement.{unspecified}
+use borrow.Author.Needs.{needs}
+use Rattle.panel.specs.Types.{unspecified}
 use Rattle.sheet_fields.proofs.Reading.{goes-on, done, as-well}
 use Rattle.sheet_fields.proofs.Codes.{by-numbers}
 use Rattle.sheet_fields.proofs.code.read_cicp.Statement.{statement}

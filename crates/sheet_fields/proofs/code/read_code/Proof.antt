@@ -1,6 +1,6 @@
 -- The number, judged by the kind's look-up.
-use borrow.Author.Needs.{needs}
 use mathlib.Core.Path.{sym, _∙_}
+use borrow.Author.Needs.{needs}
 use Rattle.sheet_fields.proofs.Reading.{is-one, is-none}
 use Rattle.sheet_fields.proofs.Values.{within}
 use Rattle.sheet_fields.proofs.code.read_code.Statement.{statement}

@@ -1,9 +1,9 @@
 -- The number, and what it stands for.
-use borrow.Author.Needs.{needs}
 use mathlib.Core.Path.{refl, sym, ap, _∙_}
 use mathlib.Core.Option.{Option·getD}
+use borrow.Author.Needs.{needs}
 use Rattle.panel.specs.declared.fmt.BitDepth.the-variants.{Eight}
-use Rattle.codes.specs.Codes.{depth-named}
+use Rattle.panel_codes.specs.Codes.{depth-named}
 use Rattle.sheet_fields.proofs.Reading.{as-well, names}
 use Rattle.sheet_fields.proofs.code.read_depth.Statement.{statement}
 use Rattle.sheet_fields.proofs.code.read_depth.Tie as tie

@@ -1,8 +1,8 @@
 -- The byte string, dropped where its bit is off.
-use borrow.Author.Needs.{needs}
 use mathlib.Core.Path.{refl, _∙_}
+use borrow.Author.Needs.{needs}
 use Rattle.panel.specs.Of.{part}
-use Rattle.panel.specs.declared.color.Part.the-variants.{Absent, Present}
+use Rattle.panel.specs.declared.part.Part.the-variants.{Absent, Present}
 use Rattle.sheet_fields.specs.Cursor.{span-of}
 use Rattle.sheet_fields.proofs.Reading.{stands, part-either}
 use Rattle.sheet_fields.proofs.optional.read_part.Statement.{statement}

@@ -1,7 +1,7 @@
 -- The first field that stands, or the second.
-use borrow.Author.Needs.{needs}
 use mathlib.Core.Path.{sym, ap, _∙_}
 use mathlib.Core.Bool.{_||_}
+use borrow.Author.Needs.{needs}
 use Rattle.sheet_frame.specs.Map.{without}
 use Rattle.sheet_frame.proofs.map.bad_alternate.Statement.{statement}
 use Rattle.sheet_frame.proofs.map.bad_alternate.Tie as tie

@@ -1,7 +1,7 @@
 -- The first test that holds.
+use mathlib.Core.Path.{sym, _∙_}
 use borrow.Author.Needs.{needs}
 use borrow.Author.Tests.{lt-ltb, le-ltb}
-use mathlib.Core.Path.{sym, _∙_}
 use Rattle.octets.proofs.Tests.{or-here, or-next}
 use Rattle.sheet_frame.proofs.map.bad_map.Statement.{statement}
 use Rattle.sheet_frame.proofs.map.bad_map.Tie as tie

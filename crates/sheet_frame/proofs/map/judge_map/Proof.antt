@@ -1,6 +1,6 @@
 -- The map is bad, or it stands.
-use borrow.Author.Needs.{needs}
 use mathlib.Core.Path.{sym, _∙_}
+use borrow.Author.Needs.{needs}
 use Rattle.sheet_frame.proofs.Frame.{bad, good}
 use Rattle.sheet_frame.proofs.map.judge_map.Statement.{statement}
 use Rattle.sheet_frame.proofs.map.judge_map.Tie as tie

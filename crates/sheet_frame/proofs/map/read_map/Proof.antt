@@ -1,7 +1,7 @@
 -- The number, and what it says as a map.
 use borrow.Author.Needs.{needs}
-use Rattle.sheet_frame.specs.Map.{sheet-map}
 use Rattle.sheet_fields.proofs.Reading.{goes-on}
+use Rattle.sheet_frame.specs.Map.{sheet-map}
 use Rattle.sheet_frame.proofs.map.read_map.Statement.{statement}
 use Rattle.sheet_frame.proofs.map.read_map.Tie as tie
 

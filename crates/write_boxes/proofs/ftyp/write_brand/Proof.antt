@@ -1,7 +1,7 @@
 -- One brand or the other.
 use borrow.Author.Needs.{needs}
-use Rattle.boxes.proofs.ftyp.write_brand.Statement.{statement}
-use Rattle.boxes.proofs.ftyp.write_brand.Tie as tie
+use Rattle.write_boxes.proofs.ftyp.write_brand.Statement.{statement}
+use Rattle.write_boxes.proofs.ftyp.write_brand.Tie as tie
 
 returns : tie.Need-returns
 returns c =

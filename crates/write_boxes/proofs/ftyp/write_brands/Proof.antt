@@ -1,8 +1,8 @@
 -- The brand, the version, the brand again, and two that every file has.
 use borrow.Author.Needs.{needs}
 use Rattle.octets.proofs.Stores.{_▹_}
-use Rattle.boxes.proofs.ftyp.write_brands.Statement.{statement}
-use Rattle.boxes.proofs.ftyp.write_brands.Tie as tie
+use Rattle.write_boxes.proofs.ftyp.write_brands.Statement.{statement}
+use Rattle.write_boxes.proofs.ftyp.write_brands.Tie as tie
 
 returns : tie.Need-returns
 returns c =

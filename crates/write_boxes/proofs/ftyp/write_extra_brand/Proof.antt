@@ -1,12 +1,12 @@
 -- A brand, or nothing.
-use borrow.Author.Needs.{needs}
-use native.Mathlib.Omega.{arith}
 use mathlib.Core.Path.{refl, ap}
-use Rattle.octets.proofs.Stores.{told, nothing}
 use mathlib.Core.Bool.{Bool, cond}
 use Prim.Native.Nat.{ℕ}
-use Rattle.boxes.proofs.ftyp.write_extra_brand.Statement.{statement}
-use Rattle.boxes.proofs.ftyp.write_extra_brand.Tie as tie
+use native.Mathlib.Omega.{arith}
+use borrow.Author.Needs.{needs}
+use Rattle.octets.proofs.Stores.{told, nothing}
+use Rattle.write_boxes.proofs.ftyp.write_extra_brand.Statement.{statement}
+use Rattle.write_boxes.proofs.ftyp.write_extra_brand.Tie as tie
 
 put-requires : tie.Need-put-requires
 put-requires c κs =

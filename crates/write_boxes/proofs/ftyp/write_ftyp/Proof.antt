@@ -1,15 +1,15 @@
 -- The head, the brands of every file, and the others.
-use borrow.Author.Needs.{needs}
-use native.Mathlib.Omega.{arith}
 use mathlib.Core.Path.{ap}
-use Rattle.octets.proofs.Stores.{_▹_, kept, told, boxed, retold}
-use Rattle.octets.specs.Numbers.{text}
-use Prim.Native.Nat.{ℕ}
 use mathlib.Core.Bool.{Bool, cond}
-use Rattle.panel.specs.Items.{given}
-use Rattle.boxes.proofs.Tests.{brands-assoc}
-use Rattle.boxes.proofs.ftyp.write_ftyp.Statement.{statement}
-use Rattle.boxes.proofs.ftyp.write_ftyp.Tie as tie
+use Prim.Native.Nat.{ℕ}
+use native.Mathlib.Omega.{arith}
+use borrow.Author.Needs.{needs}
+use Rattle.octets.specs.Numbers.{text}
+use Rattle.octets.proofs.Stores.{_▹_, kept, told, boxed, retold}
+use Rattle.panel.specs.Parts.{given}
+use Rattle.write_boxes.proofs.Brands.{brands-assoc}
+use Rattle.write_boxes.proofs.ftyp.write_ftyp.Statement.{statement}
+use Rattle.write_boxes.proofs.ftyp.write_ftyp.Tie as tie
 
 write-extra-brand-requires : tie.Need-write-extra-brand-requires
 write-extra-brand-requires c κs =

@@ -1,9 +1,9 @@
 -- The head, the group's id, the count, and the two items.
-use borrow.Author.Needs.{needs}
 use mathlib.Core.Path.{refl}
+use borrow.Author.Needs.{needs}
 use Rattle.octets.proofs.Stores.{_▹_, full-boxed}
-use Rattle.boxes.proofs.grpl.write_altr.Statement.{statement}
-use Rattle.boxes.proofs.grpl.write_altr.Tie as tie
+use Rattle.write_boxes.proofs.grpl.write_altr.Statement.{statement}
+use Rattle.write_boxes.proofs.grpl.write_altr.Tie as tie
 
 returns : tie.Need-returns
 returns c =

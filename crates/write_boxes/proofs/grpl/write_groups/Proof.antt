@@ -1,15 +1,15 @@
 -- One group, or nothing.
-use borrow.Author.Needs.{needs}
-use native.Mathlib.Omega.{arith}
 use mathlib.Core.Path.{refl, ap}
 use mathlib.Core.Bool.{Bool, cond}
 use mathlib.Core.List.{[], _∷_}
 use Prim.Native.Nat.{ℕ}
+use native.Mathlib.Omega.{arith}
+use borrow.Author.Needs.{needs}
 use Rattle.octets.specs.Boxes.{boxes, box}
 use Rattle.octets.proofs.Stores.{retold, no-boxes}
-use Rattle.panel.specs.File.{altr}
-use Rattle.gain_items.proofs.write_groups.Statement.{statement}
-use Rattle.gain_items.proofs.write_groups.Tie as tie
+use Rattle.heif.specs.Grpl.{altr}
+use Rattle.write_boxes.proofs.grpl.write_groups.Statement.{statement}
+use Rattle.write_boxes.proofs.grpl.write_groups.Tie as tie
 
 write-grpl-requires : tie.Need-write-grpl-requires
 write-grpl-requires c κs =

@@ -1,9 +1,9 @@
 -- The head, and one group.
-use borrow.Author.Needs.{needs}
 use mathlib.Core.Path.{refl}
+use borrow.Author.Needs.{needs}
 use Rattle.octets.proofs.Stores.{boxed}
-use Rattle.boxes.proofs.grpl.write_grpl.Statement.{statement}
-use Rattle.boxes.proofs.grpl.write_grpl.Tie as tie
+use Rattle.write_boxes.proofs.grpl.write_grpl.Statement.{statement}
+use Rattle.write_boxes.proofs.grpl.write_grpl.Tie as tie
 
 returns : tie.Need-returns
 returns c =

@@ -1,9 +1,9 @@
 -- The head and six fields.
-use borrow.Author.Needs.{needs}
 use mathlib.Core.Path.{refl}
+use borrow.Author.Needs.{needs}
 use Rattle.octets.proofs.Stores.{_▹_, full-boxed}
-use Rattle.boxes.proofs.hdlr.write_hdlr.Statement.{statement}
-use Rattle.boxes.proofs.hdlr.write_hdlr.Tie as tie
+use Rattle.write_boxes.proofs.hdlr.write_hdlr.Statement.{statement}
+use Rattle.write_boxes.proofs.hdlr.write_hdlr.Tie as tie
 
 returns : tie.Need-returns
 returns c =

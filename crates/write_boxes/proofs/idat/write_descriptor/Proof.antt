@@ -1,14 +1,14 @@
 -- The head, and two sides, which take 32 bits in a wide grid.
-use borrow.Author.Needs.{needs}
-use native.Mathlib.Omega.{arith}
 use mathlib.Core.Path.{sym, ap, _∙_}
 use mathlib.Core.Bool.{Bool, cond}
 use Prim.Native.Nat.{ℕ, _-_}
+use native.Mathlib.Omega.{arith}
+use borrow.Author.Needs.{needs}
 use Rattle.octets.specs.Numbers.{_‖_, be}
 use Rattle.octets.proofs.Stores.{_▹_, told}
-use Rattle.grids.proofs.Wide.{narrow, two-sides}
-use Rattle.grids.proofs.write_descriptor.Statement.{statement}
-use Rattle.grids.proofs.write_descriptor.Tie as tie
+use Rattle.plan_items.proofs.Wide.{narrow, two-sides}
+use Rattle.write_boxes.proofs.idat.write_descriptor.Statement.{statement}
+use Rattle.write_boxes.proofs.idat.write_descriptor.Tie as tie
 
 write-grid-head-requires : tie.Need-write-grid-head-requires
 write-grid-head-requires c κs =

@@ -1,8 +1,8 @@
 -- Version, flags, rows and columns less one.
 use borrow.Author.Needs.{needs}
 use Rattle.octets.proofs.Stores.{_▹_}
-use Rattle.grids.proofs.write_grid_head.Statement.{statement}
-use Rattle.grids.proofs.write_grid_head.Tie as tie
+use Rattle.write_boxes.proofs.idat.write_grid_head.Statement.{statement}
+use Rattle.write_boxes.proofs.idat.write_grid_head.Tie as tie
 
 returns : tie.Need-returns
 returns c =

@@ -1,10 +1,10 @@
 -- The head, and the descriptor twice.
-use borrow.Author.Needs.{needs}
-use native.Mathlib.Omega.{arith}
 use mathlib.Core.Path.{refl}
+use native.Mathlib.Omega.{arith}
+use borrow.Author.Needs.{needs}
 use Rattle.octets.proofs.Stores.{_▹_, boxed, retold}
-use Rattle.isobmff.proofs.meta.write_idat.Statement.{statement}
-use Rattle.isobmff.proofs.meta.write_idat.Tie as tie
+use Rattle.write_boxes.proofs.idat.write_idat.Statement.{statement}
+use Rattle.write_boxes.proofs.idat.write_idat.Tie as tie
 
 returns : tie.Need-returns
 returns c =

@@ -1,11 +1,11 @@
 -- 32 bits, or 16.
-use borrow.Author.Needs.{needs}
-use native.Mathlib.Omega.{arith}
 use mathlib.Core.Path.{ap}
 use mathlib.Core.Bool.{Bool, cond}
 use Prim.Native.Nat.{ℕ}
-use Rattle.grids.proofs.write_side.Statement.{statement}
-use Rattle.grids.proofs.write_side.Tie as tie
+use native.Mathlib.Omega.{arith}
+use borrow.Author.Needs.{needs}
+use Rattle.write_boxes.proofs.idat.write_side.Statement.{statement}
+use Rattle.write_boxes.proofs.idat.write_side.Tie as tie
 
 w32-requires : tie.Need-w32-requires
 w32-requires c κs = omega (arith, ap (λ (b : Bool). cond {A = ℕ} b 4 2) (c .before .if1 .taken))

@@ -1,15 +1,15 @@
 -- Bytes, or nothing.
-use borrow.Author.Needs.{needs}
-use native.Mathlib.Omega.{arith}
 use mathlib.Core.Path.{refl, sym, ap}
-use Rattle.octets.proofs.Stores.{told, nothing}
 use mathlib.Core.List.{flatten}
-use Rattle.panel.specs.declared.color.Part.{Part}
-use Rattle.length.specs.Parts.{long}
-use Rattle.panel.specs.Of.{part}
+use native.Mathlib.Omega.{arith}
+use borrow.Author.Needs.{needs}
+use Rattle.octets.proofs.Stores.{told, nothing}
 use Rattle.octets.proofs.Lists.{flatten-one}
-use Rattle.gain_map.proofs.payload.put_part.Statement.{statement}
-use Rattle.gain_map.proofs.payload.put_part.Tie as tie
+use Rattle.panel.specs.Parts.{long}
+use Rattle.panel.specs.Of.{part}
+use Rattle.panel.specs.declared.part.Part.{Part}
+use Rattle.write_boxes.proofs.mdat.put_part.Statement.{statement}
+use Rattle.write_boxes.proofs.mdat.put_part.Tie as tie
 
 put-requires : tie.Need-put-requires
 put-requires c κs =

@@ -1,14 +1,14 @@
 -- Three payloads, or nothing.
-use borrow.Author.Needs.{needs}
-use native.Mathlib.Omega.{arith}
 use mathlib.Core.Path.{refl, ap}
 use mathlib.Core.List.{flatten}
+use native.Mathlib.Omega.{arith}
+use borrow.Author.Needs.{needs}
 use Rattle.octets.proofs.Stores.{_▹_, told, nothing}
+use Rattle.panel.specs.Of.{with-payloads}
 use Rattle.panel.specs.declared.gain_map.MaybeGainMap.{MaybeGainMap}
-use Rattle.length.specs.Size.{gain-data-size}
-use Rattle.gain_map.specs.Parts.{with-payloads}
-use Rattle.gain_map.proofs.payload.write_data.Statement.{statement}
-use Rattle.gain_map.proofs.payload.write_data.Tie as tie
+use Rattle.heif.specs.Mdat.{gain-data-size}
+use Rattle.write_boxes.proofs.mdat.write_data.Statement.{statement}
+use Rattle.write_boxes.proofs.mdat.write_data.Tie as tie
 
 put-requires : tie.Need-put-requires
 put-requires c κs =

@@ -1,15 +1,15 @@
 -- Four zero bytes and the Exif bytes, or nothing.
-use borrow.Author.Needs.{needs}
-use native.Mathlib.Omega.{arith}
 use mathlib.Core.Path.{refl, sym, ap}
 use mathlib.Core.List.{flatten}
+use native.Mathlib.Omega.{arith}
+use borrow.Author.Needs.{needs}
 use Rattle.octets.proofs.Stores.{_▹_, kept, told, nothing}
 use Rattle.octets.proofs.Lists.{flatten-one}
-use Rattle.panel.specs.declared.color.Part.{Part}
 use Rattle.panel.specs.Of.{part}
-use Rattle.length.specs.Size.{exif-size}
-use Rattle.isobmff.proofs.payload.write_exif_payload.Statement.{statement}
-use Rattle.isobmff.proofs.payload.write_exif_payload.Tie as tie
+use Rattle.panel.specs.declared.part.Part.{Part}
+use Rattle.heif.specs.Mdat.{exif-size}
+use Rattle.write_boxes.proofs.mdat.write_exif_payload.Statement.{statement}
+use Rattle.write_boxes.proofs.mdat.write_exif_payload.Tie as tie
 
 w32-requires : tie.Need-w32-requires
 w32-requires c κs =

@@ -1,8 +1,8 @@
 -- The head, and the payloads in their order.
 use borrow.Author.Needs.{needs}
 use Rattle.octets.proofs.Stores.{_▹_, boxed}
-use Rattle.isobmff.proofs.payload.write_mdat.Statement.{statement}
-use Rattle.isobmff.proofs.payload.write_mdat.Tie as tie
+use Rattle.write_boxes.proofs.mdat.write_mdat.Statement.{statement}
+use Rattle.write_boxes.proofs.mdat.write_mdat.Tie as tie
 
 returns : tie.Need-returns
 returns c =

@@ -1,9 +1,9 @@
 -- The head and the id.
-use borrow.Author.Needs.{needs}
 use native.Mathlib.Omega.{arith}
-use Rattle.boxes.proofs.Forms.{raised}
-use Rattle.boxes.proofs.pitm.write_pitm.Statement.{statement}
-use Rattle.boxes.proofs.pitm.write_pitm.Tie as tie
+use borrow.Author.Needs.{needs}
+use Rattle.write_ids.proofs.Forms.{raised}
+use Rattle.write_boxes.proofs.pitm.write_pitm.Statement.{statement}
+use Rattle.write_boxes.proofs.pitm.write_pitm.Tie as tie
 
 returns : tie.Need-returns
 returns c =

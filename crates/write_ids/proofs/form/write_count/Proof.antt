@@ -1,12 +1,12 @@
 -- By the test: the lower half does not see what lies above it.
-use borrow.Author.Needs.{needs}
-use native.Mathlib.Omega.{arith}
 use mathlib.Core.Path.{refl}
+use native.Mathlib.Omega.{arith}
+use borrow.Author.Needs.{needs}
 use Rattle.octets.proofs.Numbers.{be-mod}
 use Rattle.octets.proofs.Stores.{told}
-use Rattle.panel.proofs.Forms.{tested}
-use Rattle.boxes.proofs.form.write_count.Statement.{statement}
-use Rattle.boxes.proofs.form.write_count.Tie as tie
+use Rattle.panel.proofs.Form.{tested}
+use Rattle.write_ids.proofs.form.write_count.Statement.{statement}
+use Rattle.write_ids.proofs.form.write_count.Tie as tie
 
 w32-requires : tie.Need-w32-requires
 w32-requires c κs = omega (arith, tested (c .before .before .is-wide .ensures) (c .before .if1 .taken) .count)

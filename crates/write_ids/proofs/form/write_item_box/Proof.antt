@@ -1,11 +1,11 @@
 -- The head with the version.
-use borrow.Author.Needs.{needs}
 use mathlib.Core.Path.{refl, ap}
 use Prim.Native.Nat.{ℕ}
+use borrow.Author.Needs.{needs}
 use Rattle.octets.specs.Numbers.{_‖_, be}
 use Rattle.octets.proofs.Stores.{told}
-use Rattle.boxes.proofs.form.write_item_box.Statement.{statement}
-use Rattle.boxes.proofs.form.write_item_box.Tie as tie
+use Rattle.write_ids.proofs.form.write_item_box.Statement.{statement}
+use Rattle.write_ids.proofs.form.write_item_box.Tie as tie
 
 returns : tie.Need-returns
 returns c =

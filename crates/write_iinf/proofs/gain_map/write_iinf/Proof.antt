@@ -1,15 +1,15 @@
 -- Two entries with a gain map, and one with a tone map.
-use borrow.Author.Needs.{needs}
-use native.Mathlib.Omega.{arith}
 use mathlib.Core.Path.{_≡_, refl}
 use mathlib.Core.Bool.{Bool, true, false, cond}
 use mathlib.Core.List.{List, [], _∷_, _++_}
 use Prim.Native.Nat.{ℕ, _+_, _*_}
+use native.Mathlib.Omega.{arith}
+use borrow.Author.Needs.{needs}
 use Rattle.octets.proofs.Stores.{kept, retold, _▸_}
-use Rattle.panel.specs.Items.{given}
-use Rattle.panel.specs.Forms.{form-of}
-use Rattle.gain_items.proofs.write_iinf.Statement.{statement}
-use Rattle.gain_items.proofs.write_iinf.Tie as tie
+use Rattle.panel.specs.Parts.{given}
+use Rattle.panel.specs.Form.{form-of}
+use Rattle.write_iinf.proofs.gain_map.write_iinf.Statement.{statement}
+use Rattle.write_iinf.proofs.gain_map.write_iinf.Tie as tie
 
 -- one by one, or both
 both : {A : Type 0} (b : Bool) (x y : A) (r : List A) → given b (x ∷ []) ++ (given b (y ∷ []) ++ r) ≡ given b (x ∷ y ∷ []) ++ r

@@ -1,14 +1,14 @@
 -- One entry, or nothing.
-use borrow.Author.Needs.{needs}
-use native.Mathlib.Omega.{arith}
 use mathlib.Core.Path.{ap}
 use mathlib.Core.Bool.{Bool, cond}
 use Prim.Native.Nat.{ℕ, _+_}
+use native.Mathlib.Omega.{arith}
 use lib.ListN.{length}
+use borrow.Author.Needs.{needs}
 use Rattle.octets.proofs.Stores.{no-boxes}
-use Rattle.panel.specs.Forms.{form-of}
-use Rattle.boxes.proofs.infe.write_given_infe.Statement.{statement}
-use Rattle.boxes.proofs.infe.write_given_infe.Tie as tie
+use Rattle.panel.specs.Form.{form-of}
+use Rattle.write_iinf.proofs.infe.write_given_infe.Statement.{statement}
+use Rattle.write_iinf.proofs.infe.write_given_infe.Tie as tie
 
 write-infe-requires : tie.Need-write-infe-requires
 write-infe-requires c κs =

@@ -1,13 +1,13 @@
 -- The head, the id, and what stands behind it.
-use borrow.Author.Needs.{needs}
-use native.Mathlib.Omega.{arith}
 use mathlib.Core.Path.{refl, ap}
 use Prim.Native.Nat.{ℕ, _+_}
+use native.Mathlib.Omega.{arith}
+use borrow.Author.Needs.{needs}
 use Rattle.octets.specs.Numbers.{_‖_, be, text}
 use Rattle.octets.proofs.Stores.{_▹_, told, full-boxed, retold}
-use Rattle.panel.specs.Forms.{form-of}
-use Rattle.boxes.proofs.infe.write_infe.Statement.{statement}
-use Rattle.boxes.proofs.infe.write_infe.Tie as tie
+use Rattle.panel.specs.Form.{form-of}
+use Rattle.write_iinf.proofs.infe.write_infe.Statement.{statement}
+use Rattle.write_iinf.proofs.infe.write_infe.Tie as tie
 
 returns : tie.Need-returns
 returns c =

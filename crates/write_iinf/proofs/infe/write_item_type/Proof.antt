@@ -1,10 +1,10 @@
 -- Four fields.
-use borrow.Author.Needs.{needs}
-use native.Mathlib.Omega.{arith}
 use mathlib.Core.Path.{refl}
+use native.Mathlib.Omega.{arith}
+use borrow.Author.Needs.{needs}
 use Rattle.octets.proofs.Stores.{_▹_, told}
-use Rattle.boxes.proofs.infe.write_item_type.Statement.{statement}
-use Rattle.boxes.proofs.infe.write_item_type.Tie as tie
+use Rattle.write_iinf.proofs.infe.write_item_type.Statement.{statement}
+use Rattle.write_iinf.proofs.infe.write_item_type.Tie as tie
 
 returns : tie.Need-returns
 returns c =

@@ -1,17 +1,17 @@
 -- Each turn writes one entry more.
-use native.Mathlib.Omega.{arith}
 use mathlib.Core.Path.{refl, sym}
-use Rattle.octets.proofs.Stores.{told}
-use Rattle.boxes.proofs.Loops.{Turn, begun, room, turned, ended}
-use Prim.Native.Nat.{ℕ, _+_}
 use mathlib.Core.List.{List, [], _∷_}
+use Prim.Native.Nat.{ℕ, _+_}
+use native.Mathlib.Omega.{arith}
 use Rattle.octets.specs.Boxes.{boxes}
+use Rattle.octets.proofs.Stores.{told}
 use Rattle.octets.proofs.Boxes.{boxes-map}
-use Rattle.panel.specs.Items.{Form, ids-from}
-use Rattle.panel.specs.Forms.{form-of}
-use Rattle.panel.specs.Iinf.{infe}
-use Rattle.boxes.proofs.infe.write_tile_infes.Statement.{statement}
-use Rattle.boxes.proofs.infe.write_tile_infes.Tie as tie
+use Rattle.panel.specs.Form.{Form, form-of}
+use Rattle.heif.specs.Items.{ids-from}
+use Rattle.heif.specs.Iinf.{infe}
+use Rattle.write_ids.proofs.Loops.{Turn, begun, room, turned, ended}
+use Rattle.write_iinf.proofs.infe.write_tile_infes.Statement.{statement}
+use Rattle.write_iinf.proofs.infe.write_tile_infes.Tie as tie
 
 -- the bytes of a tile's entry
 abbrev print : Form → ℕ → List ℕ

@@ -1,16 +1,16 @@
 -- Two entries and perhaps a third, or nothing.
-use borrow.Author.Needs.{needs}
-use native.Mathlib.Omega.{arith}
 use mathlib.Core.Path.{refl, ap}
-use Rattle.octets.proofs.Stores.{_▹_, kept, told, nothing}
 use mathlib.Core.Bool.{Bool, cond}
-use Prim.Native.Nat.{ℕ, _+_, _*_}
 use mathlib.Core.List.{flatMap}
-use Rattle.panel.specs.Forms.{form-of}
-use Rattle.locations.specs.Spans.{spans}
-use Rattle.gain_map.proofs.Joins.{tone-behind, tone-absent}
-use Rattle.gain_map.proofs.location.write_iloc.Statement.{statement}
-use Rattle.gain_map.proofs.location.write_iloc.Tie as tie
+use Prim.Native.Nat.{ℕ, _+_, _*_}
+use native.Mathlib.Omega.{arith}
+use borrow.Author.Needs.{needs}
+use Rattle.octets.proofs.Stores.{_▹_, kept, told, nothing}
+use Rattle.panel.specs.Form.{form-of}
+use Rattle.write_iloc.specs.Spans.{spans}
+use Rattle.write_iloc.proofs.GainMap.{tone-behind, tone-absent}
+use Rattle.write_iloc.proofs.gain_map.write_iloc.Statement.{statement}
+use Rattle.write_iloc.proofs.gain_map.write_iloc.Tie as tie
 
 write-image-locations-requires : tie.Need-write-image-locations-requires
 write-image-locations-requires c κs =

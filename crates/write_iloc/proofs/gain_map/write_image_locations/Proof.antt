@@ -1,18 +1,18 @@
 -- Two entries.
-use borrow.Author.Needs.{needs}
-use native.Mathlib.Omega.{arith}
 use mathlib.Core.Path.{refl, sym, ap, _∙_}
-use Prim.Native.Nat.{ℕ, suc, _+_}
 use mathlib.Core.List.{flatMap}
+use Prim.Native.Nat.{ℕ, suc, _+_}
+use native.Mathlib.Omega.{arith}
 use native.Mathlib.Numerals.{add-one}
-use Rattle.panel.specs.Items.{gain-id}
-use Rattle.panel.specs.Forms.{form-of}
+use borrow.Author.Needs.{needs}
 use Rattle.octets.proofs.Lists.{flatMap-one}
 use Rattle.octets.proofs.Stores.{_▹_, told}
-use Rattle.panel.specs.Iloc.{entry}
-use Rattle.locations.specs.Spans.{spans, location}
-use Rattle.gain_map.proofs.location.write_image_locations.Statement.{statement}
-use Rattle.gain_map.proofs.location.write_image_locations.Tie as tie
+use Rattle.panel.specs.Form.{form-of}
+use Rattle.heif.specs.Items.{gain-id}
+use Rattle.heif.specs.Iloc.{entry}
+use Rattle.write_iloc.specs.Spans.{spans, location}
+use Rattle.write_iloc.proofs.gain_map.write_image_locations.Statement.{statement}
+use Rattle.write_iloc.proofs.gain_map.write_image_locations.Tie as tie
 
 returns : tie.Need-returns
 unfolding spans flatMap

@@ -1,18 +1,18 @@
 -- One entry, or nothing.
-use borrow.Author.Needs.{needs}
-use native.Mathlib.Omega.{arith}
 use mathlib.Core.Path.{refl, sym, ap, _∙_}
 use mathlib.Core.Bool.{Bool, cond}
-use Prim.Native.Nat.{ℕ, _+_}
 use mathlib.Core.List.{flatMap}
-use Rattle.panel.specs.Items.{gain-id}
-use Rattle.panel.specs.Forms.{form-of}
+use Prim.Native.Nat.{ℕ, _+_}
+use native.Mathlib.Omega.{arith}
+use borrow.Author.Needs.{needs}
 use Rattle.octets.proofs.Lists.{flatMap-one}
 use Rattle.octets.proofs.Stores.{told, nothing}
-use Rattle.panel.specs.Iloc.{entry}
-use Rattle.locations.specs.Spans.{spans, location}
-use Rattle.gain_map.proofs.location.write_tone_location.Statement.{statement}
-use Rattle.gain_map.proofs.location.write_tone_location.Tie as tie
+use Rattle.panel.specs.Form.{form-of}
+use Rattle.heif.specs.Items.{gain-id}
+use Rattle.heif.specs.Iloc.{entry}
+use Rattle.write_iloc.specs.Spans.{spans, location}
+use Rattle.write_iloc.proofs.gain_map.write_tone_location.Statement.{statement}
+use Rattle.write_iloc.proofs.gain_map.write_tone_location.Tie as tie
 
 write-location-requires : tie.Need-write-location-requires
 write-location-requires c κs =

@@ -1,16 +1,16 @@
 -- By the form: in the ordinary one, the lower 16 bits of the id, which is what `be 2` writes.
-use borrow.Author.Needs.{needs}
-use native.Mathlib.Omega.{arith}
 use mathlib.Core.Path.{refl, ap}
 use mathlib.Core.List.{List}
 use Prim.Native.Nat.{ℕ}
+use native.Mathlib.Omega.{arith}
+use borrow.Author.Needs.{needs}
 use Rattle.octets.specs.Numbers.{_‖_, be}
 use Rattle.octets.proofs.Stores.{told}
-use Rattle.panel.specs.Items.{Form}
-use Rattle.panel.proofs.Forms.{only-ordinary}
-use Rattle.boxes.proofs.Forms.{narrowed}
-use Rattle.locations.proofs.write_location.Statement.{statement}
-use Rattle.locations.proofs.write_location.Tie as tie
+use Rattle.panel.specs.Form.{Form}
+use Rattle.panel.proofs.Form.{only-ordinary}
+use Rattle.write_ids.proofs.Forms.{narrowed}
+use Rattle.write_iloc.proofs.location.write_location.Statement.{statement}
+use Rattle.write_iloc.proofs.location.write_location.Tie as tie
 
 write-ordinary-location-requires : tie.Need-write-ordinary-location-requires
 write-ordinary-location-requires c κs =

@@ -1,8 +1,8 @@
 -- Six numbers.
 use borrow.Author.Needs.{needs}
 use Rattle.octets.proofs.Stores.{_▹_}
-use Rattle.locations.proofs.write_ordinary_location.Statement.{statement}
-use Rattle.locations.proofs.write_ordinary_location.Tie as tie
+use Rattle.write_iloc.proofs.location.write_ordinary_location.Statement.{statement}
+use Rattle.write_iloc.proofs.location.write_ordinary_location.Tie as tie
 
 returns : tie.Need-returns
 returns c =

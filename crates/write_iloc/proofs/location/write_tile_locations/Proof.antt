@@ -1,20 +1,19 @@
 -- Each turn writes one entry more, and the next begins where its sample ends.
-use native.Mathlib.Omega.{arith}
 use mathlib.Core.Path.{_≡_, refl}
-use Prim.Native.Nat.{ℕ, _+_, _*_, _-_, _≤_}
-use lib.ListN.{length, drop}
 use mathlib.Core.List.{List, flatMap}
+use Prim.Native.Nat.{ℕ, _+_, _*_, _-_, _≤_}
+use native.Mathlib.Omega.{arith}
+use lib.ListN.{length, drop}
 use lib.Seq.{drop-length}
 use Rattle.octets.specs.Numbers.{total}
 use Rattle.octets.proofs.Stores.{Owes, owes, turn, paid}
-use Rattle.boxes.proofs.Loops.{mul-all, mul-left, mul-none}
-use Rattle.panel.specs.Items.{Form}
-use Rattle.panel.specs.Forms.{form-of}
-use Rattle.panel.specs.Iloc.{entry, located}
-use Rattle.locations.specs.Spans.{spans}
-use Rattle.locations.proofs.Spans.{total-left, entries-step}
-use Rattle.locations.proofs.write_tile_locations.Statement.{statement}
-use Rattle.locations.proofs.write_tile_locations.Tie as tie
+use Rattle.panel.specs.Form.{Form, form-of}
+use Rattle.heif.specs.Iloc.{entry, located}
+use Rattle.write_ids.proofs.Loops.{mul-all, mul-left, mul-none}
+use Rattle.write_iloc.specs.Spans.{spans}
+use Rattle.write_iloc.proofs.Spans.{total-left, entries-step}
+use Rattle.write_iloc.proofs.location.write_tile_locations.Statement.{statement}
+use Rattle.write_iloc.proofs.location.write_tile_locations.Tie as tie
 
 -- what is written by the turns to come completes what is asked; an entry has k bytes
 record Turn (f : Form) (k : ℕ) (l : List ℕ) (at : ℕ) (ls : List ℕ) (first pos : ℕ) (out : List ℕ) (i a id p : ℕ) : Type 0 where

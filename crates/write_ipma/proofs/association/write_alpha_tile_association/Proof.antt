@@ -1,11 +1,11 @@
 -- The head, and two runs.
-use borrow.Author.Needs.{needs}
 use mathlib.Core.Path.{refl}
+use borrow.Author.Needs.{needs}
 use Rattle.octets.proofs.Stores.{_▹_, told}
-use Rattle.panel.specs.Forms.{form-of}
-use Rattle.boxes.proofs.Marks.{count-two, counted}
-use Rattle.boxes.proofs.association.write_alpha_tile_association.Statement.{statement}
-use Rattle.boxes.proofs.association.write_alpha_tile_association.Tie as tie
+use Rattle.panel.specs.Form.{form-of}
+use Rattle.write_ipma_lists.proofs.Marks.{count-two, counted}
+use Rattle.write_ipma.proofs.association.write_alpha_tile_association.Statement.{statement}
+use Rattle.write_ipma.proofs.association.write_alpha_tile_association.Tie as tie
 
 returns : tie.Need-returns
 returns c =

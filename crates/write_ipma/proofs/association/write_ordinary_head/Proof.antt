@@ -1,8 +1,8 @@
 -- The id and the count.
 use borrow.Author.Needs.{needs}
 use Rattle.octets.proofs.Stores.{_▹_}
-use Rattle.boxes.proofs.association.write_ordinary_head.Statement.{statement}
-use Rattle.boxes.proofs.association.write_ordinary_head.Tie as tie
+use Rattle.write_ipma.proofs.association.write_ordinary_head.Statement.{statement}
+use Rattle.write_ipma.proofs.association.write_ordinary_head.Tie as tie
 
 returns : tie.Need-returns
 returns c =

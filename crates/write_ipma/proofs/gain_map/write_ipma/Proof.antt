@@ -1,12 +1,12 @@
 -- The gain image's entry and the tone map's.
-use borrow.Author.Needs.{needs}
 use mathlib.Core.Path.{refl, sym}
+use borrow.Author.Needs.{needs}
 use Rattle.octets.proofs.Stores.{_▹_, told}
-use Rattle.panel.specs.Forms.{form-of}
 use Rattle.octets.proofs.Lists.{flatMap-append}
-use Rattle.panel.specs.Ipma.{association}
-use Rattle.gain_map.proofs.association.write_ipma.Statement.{statement}
-use Rattle.gain_map.proofs.association.write_ipma.Tie as tie
+use Rattle.panel.specs.Form.{form-of}
+use Rattle.heif.specs.Ipma.{association}
+use Rattle.write_ipma.proofs.gain_map.write_ipma.Statement.{statement}
+use Rattle.write_ipma.proofs.gain_map.write_ipma.Tie as tie
 
 returns : tie.Need-returns
 returns c =

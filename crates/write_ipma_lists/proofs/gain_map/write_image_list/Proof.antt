@@ -1,10 +1,10 @@
 -- Five roles, three of them at once, and the transforms.
-use borrow.Author.Needs.{needs}
-use native.Mathlib.Omega.{arith}
 use mathlib.Core.List.{append-assoc}
+use native.Mathlib.Omega.{arith}
+use borrow.Author.Needs.{needs}
 use Rattle.octets.proofs.Stores.{_▹_, told}
-use Rattle.gain_map.proofs.association.write_image_list.Statement.{statement}
-use Rattle.gain_map.proofs.association.write_image_list.Tie as tie
+use Rattle.write_ipma_lists.proofs.gain_map.write_image_list.Statement.{statement}
+use Rattle.write_ipma_lists.proofs.gain_map.write_image_list.Tie as tie
 
 returns : tie.Need-returns
 returns c =

@@ -1,10 +1,10 @@
 -- Three roles, and the transforms.
-use borrow.Author.Needs.{needs}
-use native.Mathlib.Omega.{arith}
 use mathlib.Core.List.{append-assoc}
+use native.Mathlib.Omega.{arith}
+use borrow.Author.Needs.{needs}
 use Rattle.octets.proofs.Stores.{_▹_, told}
-use Rattle.grid_lists.proofs.write_alpha_grid_list.Statement.{statement}
-use Rattle.grid_lists.proofs.write_alpha_grid_list.Tie as tie
+use Rattle.write_ipma_lists.proofs.grid.write_alpha_grid_list.Statement.{statement}
+use Rattle.write_ipma_lists.proofs.grid.write_alpha_grid_list.Tie as tie
 
 returns : tie.Need-returns
 returns c =

@@ -1,9 +1,9 @@
 -- Three roles, and those that may be absent.
-use borrow.Author.Needs.{needs}
 use mathlib.Core.Path.{refl}
+use borrow.Author.Needs.{needs}
 use Rattle.octets.proofs.Stores.{_▹_, told}
-use Rattle.grid_lists.proofs.write_color_grid_list.Statement.{statement}
-use Rattle.grid_lists.proofs.write_color_grid_list.Tie as tie
+use Rattle.write_ipma_lists.proofs.grid.write_color_grid_list.Statement.{statement}
+use Rattle.write_ipma_lists.proofs.grid.write_color_grid_list.Tie as tie
 
 returns : tie.Need-returns
 returns c =

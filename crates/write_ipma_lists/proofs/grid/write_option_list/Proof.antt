@@ -1,9 +1,9 @@
 -- Four roles, each marked as the definition marks it.
-use borrow.Author.Needs.{needs}
 use mathlib.Core.Path.{refl}
+use borrow.Author.Needs.{needs}
 use Rattle.octets.proofs.Stores.{_▹_, told}
-use Rattle.grid_lists.proofs.write_option_list.Statement.{statement}
-use Rattle.grid_lists.proofs.write_option_list.Tie as tie
+use Rattle.write_ipma_lists.proofs.grid.write_option_list.Statement.{statement}
+use Rattle.write_ipma_lists.proofs.grid.write_option_list.Tie as tie
 
 returns : tie.Need-returns
 returns c =

@@ -1,11 +1,11 @@
 -- None, one or two positions.
-use borrow.Author.Needs.{needs}
-use native.Mathlib.Omega.{arith}
 use mathlib.Core.Path.{_≡_}
+use native.Mathlib.Omega.{arith}
+use borrow.Author.Needs.{needs}
 use Rattle.octets.proofs.Stores.{_▹_, told, nothing, kept}
-use Rattle.boxes.proofs.Marks.{no-position, one-position, two-positions}
-use Rattle.boxes.proofs.association.write_marked.Statement.{statement}
-use Rattle.boxes.proofs.association.write_marked.Tie as tie
+use Rattle.write_ipma_lists.proofs.Marks.{no-position, one-position, two-positions}
+use Rattle.write_ipma_lists.proofs.run.write_marked.Statement.{statement}
+use Rattle.write_ipma_lists.proofs.run.write_marked.Tie as tie
 
 returns : tie.Need-returns
 returns c =

@@ -1,11 +1,11 @@
 -- Positions with the mark added, or none.
-use borrow.Author.Needs.{needs}
 use mathlib.Core.Path.{refl}
+use borrow.Author.Needs.{needs}
 use Rattle.octets.proofs.Stores.{told}
-use Rattle.boxes.specs.Runs.{places}
-use Rattle.boxes.proofs.Marks.{by-mark}
-use Rattle.boxes.proofs.association.write_run.Statement.{statement}
-use Rattle.boxes.proofs.association.write_run.Tie as tie
+use Rattle.plan_runs.specs.Runs.{places}
+use Rattle.write_ipma_lists.proofs.Marks.{by-mark}
+use Rattle.write_ipma_lists.proofs.run.write_run.Statement.{statement}
+use Rattle.write_ipma_lists.proofs.run.write_run.Tie as tie
 
 returns : tie.Need-returns
 returns c =

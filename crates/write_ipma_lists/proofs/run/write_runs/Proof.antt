@@ -1,8 +1,8 @@
 -- Three runs.
 use borrow.Author.Needs.{needs}
 use Rattle.octets.proofs.Stores.{_▹_}
-use Rattle.boxes.proofs.association.write_runs.Statement.{statement}
-use Rattle.boxes.proofs.association.write_runs.Tie as tie
+use Rattle.write_ipma_lists.proofs.run.write_runs.Statement.{statement}
+use Rattle.write_ipma_lists.proofs.run.write_runs.Tie as tie
 
 returns : tie.Need-returns
 returns c =

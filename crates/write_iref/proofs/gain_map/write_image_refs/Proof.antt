@@ -1,15 +1,15 @@
 -- Two references, or nothing.
-use borrow.Author.Needs.{needs}
-use native.Mathlib.Omega.{arith}
 use mathlib.Core.Path.{refl, ap}
 use mathlib.Core.Bool.{Bool, cond}
 use mathlib.Core.List.{[], _∷_}
 use Prim.Native.Nat.{ℕ, _+_, _*_}
-use Rattle.panel.specs.Forms.{form-of}
-use Rattle.panel.specs.Iref.{reference}
+use native.Mathlib.Omega.{arith}
+use borrow.Author.Needs.{needs}
 use Rattle.octets.proofs.Stores.{kept, retold, no-boxes, _▸_}
-use Rattle.gain_items.proofs.write_image_refs.Statement.{statement}
-use Rattle.gain_items.proofs.write_image_refs.Tie as tie
+use Rattle.panel.specs.Form.{form-of}
+use Rattle.heif.specs.Iref.{reference}
+use Rattle.write_iref.proofs.gain_map.write_image_refs.Statement.{statement}
+use Rattle.write_iref.proofs.gain_map.write_image_refs.Tie as tie
 
 write-ref-requires : tie.Need-write-ref-requires
 write-ref-requires c κs =

@@ -1,8 +1,8 @@
 -- The gain image's references and the tone map's.
 use borrow.Author.Needs.{needs}
 use Rattle.octets.proofs.Stores.{_▸_}
-use Rattle.gain_items.proofs.write_iref.Statement.{statement}
-use Rattle.gain_items.proofs.write_iref.Tie as tie
+use Rattle.write_iref.proofs.gain_map.write_iref.Statement.{statement}
+use Rattle.write_iref.proofs.gain_map.write_iref.Tie as tie
 
 returns : tie.Need-returns
 returns c =

@@ -1,15 +1,15 @@
 -- One reference, or nothing.
-use borrow.Author.Needs.{needs}
-use native.Mathlib.Omega.{arith}
 use mathlib.Core.Path.{refl, ap}
 use mathlib.Core.Bool.{Bool, cond}
 use mathlib.Core.List.{[], _∷_}
 use Prim.Native.Nat.{ℕ, _+_, _*_}
-use Rattle.panel.specs.Forms.{form-of}
-use Rattle.panel.specs.Iref.{reference}
+use native.Mathlib.Omega.{arith}
+use borrow.Author.Needs.{needs}
 use Rattle.octets.proofs.Stores.{retold, no-boxes}
-use Rattle.gain_items.proofs.write_tone_ref.Statement.{statement}
-use Rattle.gain_items.proofs.write_tone_ref.Tie as tie
+use Rattle.panel.specs.Form.{form-of}
+use Rattle.heif.specs.Iref.{reference}
+use Rattle.write_iref.proofs.gain_map.write_tone_ref.Statement.{statement}
+use Rattle.write_iref.proofs.gain_map.write_tone_ref.Tie as tie
 
 write-dimg-pair-requires : tie.Need-write-dimg-pair-requires
 write-dimg-pair-requires c κs =

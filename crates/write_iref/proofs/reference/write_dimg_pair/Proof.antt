@@ -1,14 +1,14 @@
 -- The head, the item, a count of two, the others.
-use borrow.Author.Needs.{needs}
-use native.Mathlib.Omega.{arith}
 use mathlib.Core.Path.{refl, sym}
-use Rattle.octets.proofs.Stores.{_▹_, told, boxed, retold}
-use Rattle.octets.specs.Numbers.{be}
-use Rattle.octets.proofs.Lists.{flatMap-one}
-use Rattle.panel.specs.Forms.{form-of}
 use mathlib.Core.List.{flatMap}
-use Rattle.boxes.proofs.reference.write_dimg_pair.Statement.{statement}
-use Rattle.boxes.proofs.reference.write_dimg_pair.Tie as tie
+use native.Mathlib.Omega.{arith}
+use borrow.Author.Needs.{needs}
+use Rattle.octets.specs.Numbers.{be}
+use Rattle.octets.proofs.Stores.{_▹_, told, boxed, retold}
+use Rattle.octets.proofs.Lists.{flatMap-one}
+use Rattle.panel.specs.Form.{form-of}
+use Rattle.write_iref.proofs.reference.write_dimg_pair.Statement.{statement}
+use Rattle.write_iref.proofs.reference.write_dimg_pair.Tie as tie
 
 returns : tie.Need-returns
 unfolding flatMap

@@ -1,12 +1,12 @@
 -- The head, the grid, the count of its tiles, and their ids.
-use borrow.Author.Needs.{needs}
-use native.Mathlib.Omega.{arith}
 use mathlib.Core.Path.{refl, sym, ap}
-use Rattle.octets.proofs.Stores.{_▹_, told, boxed, retold}
-use Rattle.panel.proofs.Ids.{length-ids-from}
+use native.Mathlib.Omega.{arith}
+use borrow.Author.Needs.{needs}
 use Rattle.octets.specs.Numbers.{be}
-use Rattle.boxes.proofs.reference.write_dimg_tiles.Statement.{statement}
-use Rattle.boxes.proofs.reference.write_dimg_tiles.Tie as tie
+use Rattle.octets.proofs.Stores.{_▹_, told, boxed, retold}
+use Rattle.heif.proofs.Items.{length-ids-from}
+use Rattle.write_iref.proofs.reference.write_dimg_tiles.Statement.{statement}
+use Rattle.write_iref.proofs.reference.write_dimg_tiles.Tie as tie
 
 returns : tie.Need-returns
 returns c =

@@ -1,13 +1,13 @@
 -- The head, the item, a count of one, the other item.
-use borrow.Author.Needs.{needs}
-use native.Mathlib.Omega.{arith}
 use mathlib.Core.Path.{refl, sym}
-use Rattle.octets.proofs.Stores.{_▹_, told, boxed-of, retold}
+use native.Mathlib.Omega.{arith}
+use borrow.Author.Needs.{needs}
 use Rattle.octets.specs.Numbers.{be}
+use Rattle.octets.proofs.Stores.{_▹_, told, boxed-of, retold}
 use Rattle.octets.proofs.Lists.{flatMap-one}
-use Rattle.panel.specs.Forms.{form-of}
-use Rattle.boxes.proofs.reference.write_ref.Statement.{statement}
-use Rattle.boxes.proofs.reference.write_ref.Tie as tie
+use Rattle.panel.specs.Form.{form-of}
+use Rattle.write_iref.proofs.reference.write_ref.Statement.{statement}
+use Rattle.write_iref.proofs.reference.write_ref.Tie as tie
 
 returns : tie.Need-returns
 returns c =

@@ -1,10 +1,10 @@
 -- The head, the type, and a zero byte.
-use borrow.Author.Needs.{needs}
-use native.Mathlib.Omega.{arith}
 use mathlib.Core.Path.{refl}
+use native.Mathlib.Omega.{arith}
+use borrow.Author.Needs.{needs}
 use Rattle.octets.proofs.Stores.{_▹_, full-boxed, retold}
-use Rattle.properties.proofs.auxc.write_auxc.Statement.{statement}
-use Rattle.properties.proofs.auxc.write_auxc.Tie as tie
+use Rattle.write_properties.proofs.auxc.write_auxc.Statement.{statement}
+use Rattle.write_properties.proofs.auxc.write_auxc.Tie as tie
 
 returns : tie.Need-returns
 returns c =

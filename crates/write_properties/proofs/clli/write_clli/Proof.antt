@@ -1,13 +1,13 @@
 -- Two numbers, or nothing.
-use borrow.Author.Needs.{needs}
-use native.Mathlib.Omega.{arith}
 use mathlib.Core.Path.{refl, ap}
+use native.Mathlib.Omega.{arith}
+use borrow.Author.Needs.{needs}
 use Rattle.octets.proofs.Stores.{_▹_, boxed, no-boxes}
-use Rattle.length.specs.Properties.{clli-size}
 use Rattle.panel.specs.Of.{light-of}
 use Rattle.panel.specs.declared.metadata.MaybeLightLevel.{MaybeLightLevel}
-use Rattle.properties.proofs.clli.write_clli.Statement.{statement}
-use Rattle.properties.proofs.clli.write_clli.Tie as tie
+use Rattle.heif.specs.Clli.{clli-size}
+use Rattle.write_properties.proofs.clli.write_clli.Statement.{statement}
+use Rattle.write_properties.proofs.clli.write_clli.Tie as tie
 
 write-box-requires : tie.Need-write-box-requires
 write-box-requires c κs =

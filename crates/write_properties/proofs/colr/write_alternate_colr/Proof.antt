@@ -1,13 +1,13 @@
 -- What an alternate colour states, or nothing.
-use borrow.Author.Needs.{needs}
-use native.Mathlib.Omega.{arith}
 use mathlib.Core.Path.{ap}
+use native.Mathlib.Omega.{arith}
+use borrow.Author.Needs.{needs}
 use Rattle.octets.proofs.Stores.{no-boxes}
-use Rattle.length.specs.Properties.{alternates-size}
 use Rattle.panel.specs.Of.{alternate-of}
 use Rattle.panel.specs.declared.color.MaybeColorMetadata.{MaybeColorMetadata}
-use Rattle.properties.proofs.colr.write_alternate_colr.Statement.{statement}
-use Rattle.properties.proofs.colr.write_alternate_colr.Tie as tie
+use Rattle.heif.specs.Colr.{alternates-size}
+use Rattle.write_properties.proofs.colr.write_alternate_colr.Statement.{statement}
+use Rattle.write_properties.proofs.colr.write_alternate_colr.Tie as tie
 
 write-stated-colr-requires : tie.Need-write-stated-colr-requires
 write-stated-colr-requires c κs =

@@ -1,12 +1,12 @@
 -- Code points, or what stands for them.
-use borrow.Author.Needs.{needs}
-use native.Mathlib.Omega.{arith}
 use mathlib.Core.Path.{ap}
-use Rattle.length.specs.Properties.{first-colr-size}
+use native.Mathlib.Omega.{arith}
+use borrow.Author.Needs.{needs}
 use Rattle.panel.specs.Of.{cicp-of, part}
 use Rattle.panel.specs.declared.color.MaybeCicp.{MaybeCicp}
-use Rattle.properties.proofs.colr.write_colr.Statement.{statement}
-use Rattle.properties.proofs.colr.write_colr.Tie as tie
+use Rattle.heif.specs.Colr.{first-colr-size}
+use Rattle.write_properties.proofs.colr.write_colr.Statement.{statement}
+use Rattle.write_properties.proofs.colr.write_colr.Tie as tie
 
 write-colr-nclx-requires : tie.Need-write-colr-nclx-requires
 write-colr-nclx-requires c κs =

@@ -1,10 +1,10 @@
 -- The head, the kind of colour, and the profile.
-use borrow.Author.Needs.{needs}
-use native.Mathlib.Omega.{arith}
 use mathlib.Core.Path.{refl}
+use native.Mathlib.Omega.{arith}
+use borrow.Author.Needs.{needs}
 use Rattle.octets.proofs.Stores.{_▹_, boxed, retold}
-use Rattle.properties.proofs.colr.write_colr_icc.Statement.{statement}
-use Rattle.properties.proofs.colr.write_colr_icc.Tie as tie
+use Rattle.write_properties.proofs.colr.write_colr_icc.Statement.{statement}
+use Rattle.write_properties.proofs.colr.write_colr_icc.Tie as tie
 
 returns : tie.Need-returns
 returns c =

@@ -1,10 +1,10 @@
 -- The head, the kind of colour, three codes and the range.
-use borrow.Author.Needs.{needs}
 use mathlib.Core.Path.{refl, ap}
-use Rattle.octets.proofs.Stores.{_▹_, told, boxed}
+use borrow.Author.Needs.{needs}
 use Rattle.octets.specs.Numbers.{be}
-use Rattle.properties.proofs.colr.write_colr_nclx.Statement.{statement}
-use Rattle.properties.proofs.colr.write_colr_nclx.Tie as tie
+use Rattle.octets.proofs.Stores.{_▹_, told, boxed}
+use Rattle.write_properties.proofs.colr.write_colr_nclx.Statement.{statement}
+use Rattle.write_properties.proofs.colr.write_colr_nclx.Tie as tie
 
 returns : tie.Need-returns
 returns c =

@@ -1,18 +1,17 @@
 -- A profile, or unspecified full-range.
-use borrow.Author.Needs.{needs}
-use native.Mathlib.Omega.{arith}
 use mathlib.Core.Path.{refl, ap}
-use Rattle.octets.proofs.Stores.{retold}
-use Rattle.length.specs.Properties.{first-colr-size}
-use Rattle.panel.specs.Of.{part}
-use Rattle.panel.specs.declared.color.Part.{Part}
 use mathlib.Core.Option.{none}
-use Rattle.octets.specs.Boxes.{box}
-use Rattle.panel.specs.Ipco.{nclx-payload}
-use Rattle.panel.specs.declared.color.Cicp.{Cicp}
 use mathlib.Core.List.{[], _∷_}
-use Rattle.properties.proofs.colr.write_colr_without_cicp.Statement.{statement}
-use Rattle.properties.proofs.colr.write_colr_without_cicp.Tie as tie
+use native.Mathlib.Omega.{arith}
+use borrow.Author.Needs.{needs}
+use Rattle.octets.specs.Boxes.{box}
+use Rattle.octets.proofs.Stores.{retold}
+use Rattle.panel.specs.Of.{part}
+use Rattle.panel.specs.declared.part.Part.{Part}
+use Rattle.panel.specs.declared.color.Cicp.{Cicp}
+use Rattle.heif.specs.Colr.{first-colr-size, nclx-payload}
+use Rattle.write_properties.proofs.colr.write_colr_without_cicp.Statement.{statement}
+use Rattle.write_properties.proofs.colr.write_colr_without_cicp.Tie as tie
 
 write-colr-icc-requires : tie.Need-write-colr-icc-requires
 write-colr-icc-requires c κs =

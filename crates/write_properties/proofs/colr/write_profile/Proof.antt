@@ -1,13 +1,13 @@
 -- A profile, or nothing.
-use borrow.Author.Needs.{needs}
-use native.Mathlib.Omega.{arith}
 use mathlib.Core.Path.{ap}
+use native.Mathlib.Omega.{arith}
+use borrow.Author.Needs.{needs}
 use Rattle.octets.proofs.Stores.{no-boxes}
-use Rattle.length.specs.Properties.{profile-size}
 use Rattle.panel.specs.Of.{part}
-use Rattle.panel.specs.declared.color.Part.{Part}
-use Rattle.properties.proofs.colr.write_profile.Statement.{statement}
-use Rattle.properties.proofs.colr.write_profile.Tie as tie
+use Rattle.panel.specs.declared.part.Part.{Part}
+use Rattle.heif.specs.Colr.{profile-size}
+use Rattle.write_properties.proofs.colr.write_profile.Statement.{statement}
+use Rattle.write_properties.proofs.colr.write_profile.Tie as tie
 
 write-colr-icc-requires : tie.Need-write-colr-icc-requires
 write-colr-icc-requires c κs =

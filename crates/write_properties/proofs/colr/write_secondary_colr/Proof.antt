@@ -1,13 +1,13 @@
 -- A profile beside code points, or nothing.
-use borrow.Author.Needs.{needs}
-use native.Mathlib.Omega.{arith}
 use mathlib.Core.Path.{ap}
+use native.Mathlib.Omega.{arith}
+use borrow.Author.Needs.{needs}
 use Rattle.octets.proofs.Stores.{no-boxes}
-use Rattle.length.specs.Properties.{second-colr-size}
 use Rattle.panel.specs.Of.{cicp-of, part}
 use Rattle.panel.specs.declared.color.MaybeCicp.{MaybeCicp}
-use Rattle.properties.proofs.colr.write_secondary_colr.Statement.{statement}
-use Rattle.properties.proofs.colr.write_secondary_colr.Tie as tie
+use Rattle.heif.specs.Colr.{second-colr-size}
+use Rattle.write_properties.proofs.colr.write_secondary_colr.Statement.{statement}
+use Rattle.write_properties.proofs.colr.write_secondary_colr.Tie as tie
 
 write-profile-requires : tie.Need-write-profile-requires
 write-profile-requires c κs =

@@ -1,13 +1,13 @@
 -- Code points and then a profile, or a profile, or nothing.
-use borrow.Author.Needs.{needs}
-use native.Mathlib.Omega.{arith}
 use mathlib.Core.Path.{refl, ap}
+use native.Mathlib.Omega.{arith}
+use borrow.Author.Needs.{needs}
 use Rattle.octets.proofs.Stores.{retold, _▸_}
-use Rattle.length.specs.Properties.{stated-size}
 use Rattle.panel.specs.Of.{cicp-of, part}
 use Rattle.panel.specs.declared.color.MaybeCicp.{MaybeCicp}
-use Rattle.properties.proofs.colr.write_stated_colr.Statement.{statement}
-use Rattle.properties.proofs.colr.write_stated_colr.Tie as tie
+use Rattle.heif.specs.Colr.{stated-size}
+use Rattle.write_properties.proofs.colr.write_stated_colr.Statement.{statement}
+use Rattle.write_properties.proofs.colr.write_stated_colr.Tie as tie
 
 write-colr-nclx-requires : tie.Need-write-colr-nclx-requires
 write-colr-nclx-requires c κs =

@@ -1,13 +1,13 @@
 -- Five properties.
-use borrow.Author.Needs.{needs}
-use native.Mathlib.Omega.{arith}
 use mathlib.Core.Path.{refl, ap}
-use Rattle.octets.proofs.Stores.{retold, _▸_}
-use Prim.Native.Nat.{ℕ}
 use mathlib.Core.List.{[], _∷_}
-use Rattle.panel.specs.Ipco.{pixi}
-use Rattle.gain_map.proofs.property.write_image_properties.Statement.{statement}
-use Rattle.gain_map.proofs.property.write_image_properties.Tie as tie
+use Prim.Native.Nat.{ℕ}
+use native.Mathlib.Omega.{arith}
+use borrow.Author.Needs.{needs}
+use Rattle.octets.proofs.Stores.{retold, _▸_}
+use Rattle.heif.specs.Pixi.{pixi}
+use Rattle.write_properties.proofs.gain_map.write_image_properties.Statement.{statement}
+use Rattle.write_properties.proofs.gain_map.write_image_properties.Tie as tie
 
 returns : tie.Need-returns
 returns c =

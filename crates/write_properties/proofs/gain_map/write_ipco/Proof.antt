@@ -1,13 +1,13 @@
 -- The gain image's properties and the tone map's, or nothing.
-use borrow.Author.Needs.{needs}
-use native.Mathlib.Omega.{arith}
 use mathlib.Core.Path.{ap}
+use native.Mathlib.Omega.{arith}
+use borrow.Author.Needs.{needs}
 use Rattle.octets.proofs.Stores.{kept, no-boxes, _▸_}
+use Rattle.panel.specs.Of.{with-properties}
 use Rattle.panel.specs.declared.gain_map.MaybeGainMap.{MaybeGainMap}
-use Rattle.length.specs.Properties.{gain-properties-size}
-use Rattle.gain_map.specs.Parts.{with-properties}
-use Rattle.gain_map.proofs.property.write_ipco.Statement.{statement}
-use Rattle.gain_map.proofs.property.write_ipco.Tie as tie
+use Rattle.heif.specs.Ipco.{gain-properties-size}
+use Rattle.write_properties.proofs.gain_map.write_ipco.Statement.{statement}
+use Rattle.write_properties.proofs.gain_map.write_ipco.Tie as tie
 
 write-image-properties-requires : tie.Need-write-image-properties-requires
 write-image-properties-requires c κs =

@@ -1,10 +1,10 @@
 -- Two properties and the alternate colour.
-use borrow.Author.Needs.{needs}
-use native.Mathlib.Omega.{arith}
 use mathlib.Core.Path.{refl}
+use native.Mathlib.Omega.{arith}
+use borrow.Author.Needs.{needs}
 use Rattle.octets.proofs.Stores.{retold, _▸_}
-use Rattle.gain_map.proofs.property.write_tone_boxes.Statement.{statement}
-use Rattle.gain_map.proofs.property.write_tone_boxes.Tie as tie
+use Rattle.write_properties.proofs.gain_map.write_tone_boxes.Statement.{statement}
+use Rattle.write_properties.proofs.gain_map.write_tone_boxes.Tie as tie
 
 returns : tie.Need-returns
 returns c =

@@ -1,16 +1,18 @@
 -- The tone map's properties, or nothing.
-use borrow.Author.Needs.{needs}
-use native.Mathlib.Omega.{arith}
 use mathlib.Core.Path.{refl, sym, ap}
-use Rattle.octets.proofs.Stores.{retold, no-boxes}
 use mathlib.Core.List.{List, [], _∷_, append-nil}
-use Rattle.panel.specs.Ipco.{ispe, pixi, alternates}
-use Rattle.panel.specs.Of.{part, alternate-of}
-use Rattle.panel.specs.declared.color.Part.{Part}
-use Rattle.length.specs.Properties.{tone-properties-size}
+use native.Mathlib.Omega.{arith}
+use borrow.Author.Needs.{needs}
 use Rattle.octets.specs.Boxes.{Box}
-use Rattle.gain_map.proofs.property.write_tone_properties.Statement.{statement}
-use Rattle.gain_map.proofs.property.write_tone_properties.Tie as tie
+use Rattle.octets.proofs.Stores.{retold, no-boxes}
+use Rattle.panel.specs.Of.{part, alternate-of}
+use Rattle.panel.specs.declared.part.Part.{Part}
+use Rattle.heif.specs.Ispe.{ispe}
+use Rattle.heif.specs.Pixi.{pixi}
+use Rattle.heif.specs.Colr.{alternates}
+use Rattle.heif.specs.Ipco.{tone-properties-size}
+use Rattle.write_properties.proofs.gain_map.write_tone_properties.Statement.{statement}
+use Rattle.write_properties.proofs.gain_map.write_tone_properties.Tie as tie
 
 write-tone-boxes-requires : tie.Need-write-tone-boxes-requires
 write-tone-boxes-requires c κs =

@@ -1,8 +1,8 @@
 -- The head, then the record.
 use borrow.Author.Needs.{needs}
 use Rattle.octets.proofs.Stores.{boxed}
-use Rattle.properties.proofs.hvcc.write_hvcc.Statement.{statement}
-use Rattle.properties.proofs.hvcc.write_hvcc.Tie as tie
+use Rattle.write_properties.proofs.hvcc.write_hvcc.Statement.{statement}
+use Rattle.write_properties.proofs.hvcc.write_hvcc.Tie as tie
 
 returns : tie.Need-returns
 returns c =

@@ -1,14 +1,14 @@
 -- One byte, or nothing.
-use borrow.Author.Needs.{needs}
-use native.Mathlib.Omega.{arith}
 use mathlib.Core.Path.{refl, ap}
-use Rattle.octets.proofs.Stores.{told, boxed, no-boxes}
-use Rattle.length.specs.Properties.{imir-size}
-use Rattle.panel.specs.declared.metadata.ImirAxis.{ImirAxis}
-use Rattle.panel.specs.Types.{maybe-axis}
+use native.Mathlib.Omega.{arith}
+use borrow.Author.Needs.{needs}
 use Rattle.octets.specs.Numbers.{be}
-use Rattle.properties.proofs.imir.write_imir.Statement.{statement}
-use Rattle.properties.proofs.imir.write_imir.Tie as tie
+use Rattle.octets.proofs.Stores.{told, boxed, no-boxes}
+use Rattle.panel.specs.Types.{maybe-axis}
+use Rattle.panel.specs.declared.metadata.ImirAxis.{ImirAxis}
+use Rattle.heif.specs.Imir.{imir-size}
+use Rattle.write_properties.proofs.imir.write_imir.Statement.{statement}
+use Rattle.write_properties.proofs.imir.write_imir.Tie as tie
 
 write-box-requires : tie.Need-write-box-requires
 write-box-requires c κs =

@@ -1,10 +1,10 @@
 -- A picture is turned where its quarter turns are odd.
-use borrow.Author.Needs.{needs}
 use mathlib.Core.Path.{ap}
 use Prim.Native.Nat.{ℕ, _%_}
 use lib.Dec.{eqb}
-use Rattle.isobmff.proofs.property.is_turned.Statement.{statement}
-use Rattle.isobmff.proofs.property.is_turned.Tie as tie
+use borrow.Author.Needs.{needs}
+use Rattle.write_properties.proofs.ipco.is_turned.Statement.{statement}
+use Rattle.write_properties.proofs.ipco.is_turned.Tie as tie
 
 returns : tie.Need-returns
 returns c =

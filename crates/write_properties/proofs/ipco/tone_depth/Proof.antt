@@ -1,8 +1,8 @@
 -- The larger of the depth and 10, depth by depth.
-use borrow.Author.Needs.{needs}
 use mathlib.Core.Path.{refl}
-use Rattle.isobmff.proofs.property.tone_depth.Statement.{statement}
-use Rattle.isobmff.proofs.property.tone_depth.Tie as tie
+use borrow.Author.Needs.{needs}
+use Rattle.write_properties.proofs.ipco.tone_depth.Statement.{statement}
+use Rattle.write_properties.proofs.ipco.tone_depth.Tie as tie
 
 returns : tie.Need-returns
 returns c =

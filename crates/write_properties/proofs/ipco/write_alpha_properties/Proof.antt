@@ -1,12 +1,12 @@
 -- Three properties.
-use borrow.Author.Needs.{needs}
 use mathlib.Core.Path.{refl, ap}
-use Rattle.octets.proofs.Stores.{retold, _▸_}
-use Prim.Native.Nat.{ℕ}
 use mathlib.Core.List.{[], _∷_}
-use Rattle.panel.specs.Ipco.{pixi}
-use Rattle.isobmff.proofs.property.write_alpha_properties.Statement.{statement}
-use Rattle.isobmff.proofs.property.write_alpha_properties.Tie as tie
+use Prim.Native.Nat.{ℕ}
+use borrow.Author.Needs.{needs}
+use Rattle.octets.proofs.Stores.{retold, _▸_}
+use Rattle.heif.specs.Pixi.{pixi}
+use Rattle.write_properties.proofs.ipco.write_alpha_properties.Statement.{statement}
+use Rattle.write_properties.proofs.ipco.write_alpha_properties.Tie as tie
 
 returns : tie.Need-returns
 returns c =

@@ -1,13 +1,15 @@
 -- The gain map's properties, with the sides as they are turned.
-use borrow.Author.Needs.{needs}
 use mathlib.Core.Path.{refl, ap, _∙_}
-use Rattle.octets.proofs.Stores.{retold}
 use mathlib.Core.Bool.{Bool, cond}
 use Prim.Native.Nat.{ℕ}
-use Rattle.panel.specs.Ipco.{ispe, pixi, gain-slots, held}
-use Rattle.gain_map.specs.Parts.{with-properties}
-use Rattle.isobmff.proofs.property.write_gain_properties.Statement.{statement}
-use Rattle.isobmff.proofs.property.write_gain_properties.Tie as tie
+use borrow.Author.Needs.{needs}
+use Rattle.octets.proofs.Stores.{retold}
+use Rattle.panel.specs.Of.{with-properties}
+use Rattle.heif.specs.Ispe.{ispe}
+use Rattle.heif.specs.Pixi.{pixi}
+use Rattle.heif.specs.Ipco.{gain-slots, held}
+use Rattle.write_properties.proofs.ipco.write_gain_properties.Statement.{statement}
+use Rattle.write_properties.proofs.ipco.write_gain_properties.Tie as tie
 
 returns : tie.Need-returns
 returns c =

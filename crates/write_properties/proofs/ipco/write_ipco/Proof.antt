@@ -1,15 +1,15 @@
 -- The head, and the properties of the colour, of alpha, those that may be absent, and the gain map's.
-use borrow.Author.Needs.{needs}
-use native.Mathlib.Omega.{arith}
 use mathlib.Core.Path.{sym, ap, _∙_}
-use Rattle.octets.proofs.Stores.{kept, boxed, retold, _▸_}
-use Prim.Native.Nat.{ℕ, _+_}
 use mathlib.Core.List.{[], _∷_}
+use Prim.Native.Nat.{ℕ, _+_}
+use native.Mathlib.Omega.{arith}
+use borrow.Author.Needs.{needs}
 use Rattle.octets.specs.Boxes.{Box}
-use Rattle.isobmff.specs.Parts.{lent-props}
-use Rattle.isobmff.proofs.Parts.{ipco-joined, ipco-sum}
-use Rattle.isobmff.proofs.property.write_ipco.Statement.{statement}
-use Rattle.isobmff.proofs.property.write_ipco.Tie as tie
+use Rattle.octets.proofs.Stores.{kept, boxed, retold, _▸_}
+use Rattle.panel.specs.Lent.{lent-props}
+use Rattle.write_properties.proofs.Parts.{ipco-joined, ipco-sum}
+use Rattle.write_properties.proofs.ipco.write_ipco.Statement.{statement}
+use Rattle.write_properties.proofs.ipco.write_ipco.Tie as tie
 
 write-color-properties-requires : tie.Need-write-color-properties-requires
 write-color-properties-requires c κs =

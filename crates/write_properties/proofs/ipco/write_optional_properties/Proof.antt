@@ -1,16 +1,17 @@
 -- Four properties that may be absent.
-use borrow.Author.Needs.{needs}
-use native.Mathlib.Omega.{arith}
-use mathlib.Core.Path.{ap}
-use Rattle.octets.proofs.Stores.{kept, retold, _▸_}
+use mathlib.Core.Path.{refl, sym, ap}
 use mathlib.Core.Bool.{Bool}
-use Prim.Native.Nat.{ℕ}
-use Rattle.panel.specs.Ipco.{irot-payload, imir-payload}
-use Rattle.length.specs.Properties.{irot-size, imir-size}
 use mathlib.Core.Option.{Option}
+use mathlib.Core.List.{append-nil}
+use Prim.Native.Nat.{ℕ}
+use native.Mathlib.Omega.{arith}
+use borrow.Author.Needs.{needs}
 use Rattle.octets.specs.Boxes.{optional}
-use Rattle.isobmff.proofs.property.write_optional_properties.Statement.{statement}
-use Rattle.isobmff.proofs.property.write_optional_properties.Tie as tie
+use Rattle.octets.proofs.Stores.{kept, retold, _▸_}
+use Rattle.heif.specs.Irot.{irot-payload, irot-size}
+use Rattle.heif.specs.Imir.{imir-payload, imir-size}
+use Rattle.write_properties.proofs.ipco.write_optional_properties.Statement.{statement}
+use Rattle.write_properties.proofs.ipco.write_optional_properties.Tie as tie
 
 write-irot-requires : tie.Need-write-irot-requires
 write-irot-requires c κs =
@@ -47,7 +48,7 @@ returns c =
     let c3 = c4 .before .before .before .before in
     let c2 = c3 .before .before in
     let c1 = c2 .before in
-    (c3 .write-secondary-colr .ensures) ▸ retold (c4 .write-irot .ensures) (ap (λ (k : ℕ). optional "irot" (irot-payload k)) (c1 .irot-steps .ensures)) (ap (λ (k : ℕ). irot-size k) (c1 .irot-steps .ensures)) ▸ retold (c5 .write-imir .ensures) (ap (λ (a : Option Bool). optional "imir" (imir-payload a)) (c2 .imir-axis .ensures)) (ap (λ (a : Option Bool). imir-size a) (c2 .imir-axis .ensures)) ▸ (c6 .write-clli .ensures)
+    (c3 .write-secondary-colr .ensures) ▸ retold (c4 .write-irot .ensures) (ap (λ (k : ℕ). optional "irot" (irot-payload k)) (c1 .irot-steps .ensures)) (ap (λ (k : ℕ). irot-size k) (c1 .irot-steps .ensures)) ▸ retold (c5 .write-imir .ensures) (ap (λ (a : Option Bool). optional "imir" (imir-payload a)) (c2 .imir-axis .ensures)) (ap (λ (a : Option Bool). imir-size a) (c2 .imir-axis .ensures)) ▸ retold (c6 .write-clli .ensures) (sym (append-nil _)) refl
 
 pub write-optional-properties-spec : {M : Type 1} → statement M
 write-optional-properties-spec = tie.close (tie.spec (λ c κs. search needs) (λ c κs. search needs) (λ c κs. search needs) write-irot-requires write-imir-requires write-clli-requires (λ c. search needs) returns)

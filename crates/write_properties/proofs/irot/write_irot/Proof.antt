@@ -1,11 +1,11 @@
 -- One byte, or nothing.
-use borrow.Author.Needs.{needs}
-use native.Mathlib.Omega.{arith}
 use mathlib.Core.Path.{refl, sym}
+use native.Mathlib.Omega.{arith}
+use borrow.Author.Needs.{needs}
 use Rattle.octets.proofs.Stores.{boxed, retold, no-boxes}
-use Rattle.properties.proofs.Optional.{irot-none, irot-some}
-use Rattle.properties.proofs.irot.write_irot.Statement.{statement}
-use Rattle.properties.proofs.irot.write_irot.Tie as tie
+use Rattle.write_properties.proofs.Turns.{irot-none, irot-some}
+use Rattle.write_properties.proofs.irot.write_irot.Statement.{statement}
+use Rattle.write_properties.proofs.irot.write_irot.Tie as tie
 
 returns : tie.Need-returns
 returns c =

@@ -1,9 +1,9 @@
 -- The head, then the two sizes.
-use borrow.Author.Needs.{needs}
 use mathlib.Core.Path.{refl}
+use borrow.Author.Needs.{needs}
 use Rattle.octets.proofs.Stores.{_▹_, full-boxed}
-use Rattle.properties.proofs.ispe.write_ispe.Statement.{statement}
-use Rattle.properties.proofs.ispe.write_ispe.Tie as tie
+use Rattle.write_properties.proofs.ispe.write_ispe.Statement.{statement}
+use Rattle.write_properties.proofs.ispe.write_ispe.Tie as tie
 
 returns : tie.Need-returns
 returns c =

@@ -1,6 +1,6 @@
 -- Each arm answers the code of its variant.
-use borrow.Author.Needs.{needs}
 use mathlib.Core.Path.{sym, ap}
+use borrow.Author.Needs.{needs}
 use Rattle.panel.specs.Types.{matrix-code}
 use Rattle.panel.proofs.color.MatrixCoefficients.code.Statement.{statement}
 use Rattle.panel.proofs.color.MatrixCoefficients.code.Tie as tie

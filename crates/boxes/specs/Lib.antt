@@ -1,2 +1,0 @@
-pub mod Brands
-pub mod Runs

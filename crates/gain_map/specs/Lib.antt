@@ -1,2 +1,0 @@
-pub mod Sizes
-pub mod Parts

@@ -1,0 +1,17 @@
+-- 14496-12, 12.1: content light level.
+use mathlib.Core.Bool.{cond}
+use mathlib.Core.Option.{Option, none, some}
+use mathlib.Core.List.{List}
+use Prim.Native.Nat.{ℕ, _*_}
+use Rattle.octets.specs.Numbers.{_‖_, be}
+use Rattle.panel.specs.Parts.{has}
+use Rattle.panel.specs.declared.metadata.ContentLightLevel.{ContentLightLevel}
+
+abbrev pub clli-payload : Option ContentLightLevel → Option (List ℕ)
+clli-payload none = none
+clli-payload (some l) = some (be 2 (l .«max_content_light_level») ‖ be 2 (l .«max_pic_average_light_level»))
+
+-- ---- how many bytes it has, as a whole box
+
+abbrev pub clli-size : Option ContentLightLevel → ℕ
+clli-size light = 12 * cond (has light) 1 0

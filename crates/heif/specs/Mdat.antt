@@ -1,0 +1,53 @@
+-- 14496-12, 8.1.1: media data box, with the payloads of the tiles, the Exif and the gain map; 23008-12, annex A: the Exif's payload.
+use mathlib.Core.Bool.{cond}
+use mathlib.Core.Option.{Option, none, some}
+use mathlib.Core.List.{List, [], _∷_, flatten}
+use Prim.Native.Nat.{ℕ, _+_}
+use lib.ListN.{take, drop, length}
+use Rattle.octets.specs.Numbers.{_‖_, be}
+use Rattle.octets.specs.Boxes.{Box, box}
+use Rattle.panel.specs.Panel.{Gain, Panel}
+use Rattle.panel.specs.Parts.{has, long, listed}
+
+-- ---- payloads, in the order of mdat
+
+-- bytes that lie back to back, cut by their lengths
+abbrev pub samples : List ℕ → List ℕ → List (List ℕ)
+samples [] bytes = []
+samples (n ∷ l) bytes = take n bytes ∷ samples l (drop n bytes)
+
+-- 23008-12, annex A: the offset of the TIFF header, which is 0, then the Exif bytes
+abbrev pub exif-payload : Option (List ℕ) → List (List ℕ)
+exif-payload none = []
+exif-payload (some e) = (be 4 0 ‖ e) ∷ []
+
+abbrev pub gain-payloads : Option Gain → List (List ℕ)
+gain-payloads none = []
+gain-payloads (some g) = g .sample ∷ g .xmp ∷ listed (g .tone)
+
+-- of the items behind the alpha grid
+abbrev pub other-payloads : Panel → List (List ℕ)
+other-payloads p = exif-payload (p .metadata .exif) ‖ gain-payloads (p .gain)
+
+abbrev pub payloads : Panel → List (List ℕ)
+payloads p =
+    samples (p .tiles .lengths) (p .tiles .bytes)
+    ‖ samples (p .alpha .lengths) (p .alpha .bytes)
+    ‖ other-payloads p
+
+abbrev pub mdat : Panel → Box
+mdat p = box "mdat" (flatten (payloads p))
+
+-- ---- how many bytes its body has
+
+-- the Exif payload: the offset of the TIFF header and the Exif bytes, where they are present
+abbrev pub exif-size : Option (List ℕ) → ℕ
+exif-size exif = cond (has exif) 4 0 + long exif
+
+abbrev pub gain-data-size : Option Gain → ℕ
+gain-data-size none = 0
+gain-data-size (some g) = length (g .sample) + length (g .xmp) + long (g .tone)
+
+abbrev pub mdat-size : Panel → ℕ
+mdat-size p =
+    length (p .tiles .bytes) + length (p .alpha .bytes) + exif-size (p .metadata .exif) + gain-data-size (p .gain)

@@ -1,0 +1,3 @@
+pub mod Trials
+pub mod Examples
+pub mod Promises

@@ -1,0 +1,4 @@
+pub mod Norm
+pub mod Payloads
+pub mod Properties
+pub mod Unique

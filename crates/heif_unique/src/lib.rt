@@ -1,0 +1,1 @@
+// The theorem that one file is one panel, in proofs/. There is no code here.

@@ -1,2 +1,0 @@
-pub mod Locations
-pub mod Parts

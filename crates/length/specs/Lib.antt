@@ -1,4 +1,0 @@
-pub mod Parts
-pub mod Properties
-pub mod Size
-pub mod Shares

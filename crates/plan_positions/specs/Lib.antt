@@ -1,0 +1,3 @@
+pub mod Counts
+pub mod Roles
+pub mod Gain

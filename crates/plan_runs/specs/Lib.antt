@@ -1,0 +1,5 @@
+pub mod Counts
+pub mod Runs
+pub mod GainMap
+pub mod Lists
+pub mod Pictures

@@ -1,0 +1,18 @@
+// Runs of property positions, by value: the record that runs through all properties, and the runs of each picture.
+
+pub mod counts;
+pub mod gain_map;
+pub mod pictures;
+
+use panel::PropertyPosition;
+
+// The positions of the boxes of one role, one after the other: none, one or more.
+pub struct Run {
+    pub first: PropertyPosition,
+    pub count: u8,
+}
+
+// The next free position.
+pub struct Positions {
+    pub next: PropertyPosition,
+}

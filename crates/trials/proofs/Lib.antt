@@ -1,3 +1,0 @@
-pub mod Trials
-pub mod Promises
-pub mod Examples
