@@ -1,25 +1,27 @@
--- The length of ipma: how many items it names, and how many positions each.
-use mathlib.Core.Path.{_≡_, refl, ap, _∙_}
-use mathlib.Core.Bool.{cond}
+-- The length of ipma: how many items it names, and how many positions each; and its entries piece by piece.
+use mathlib.Core.Path.{_≡_, refl, sym, ap, _∙_}
+use mathlib.Core.Bool.{Bool, true, false, cond}
 use mathlib.Core.Option.{Option, none, some}
-use mathlib.Core.List.{List, [], _∷_, map, flatMap}
+use mathlib.Core.List.{List, [], _∷_, _++_, map, map-append, flatMap}
 use Prim.Native.Nat.{ℕ, _+_, zero, suc, _*_}
 use native.Mathlib.Omega.{arith}
-use native.Mathlib.Nat.{zero-mul, suc-mul}
+use native.Mathlib.Nat.{zero-mul, suc-mul, mul-comm}
 use lib.ListN.{length, length-append, length-map}
 use Rattle.octets.specs.Numbers.{_‖_, total}
 use Rattle.octets.specs.Boxes.{Box}
+use Rattle.octets.proofs.Lists.{total-append, flatMap-map, flatMap-one, flatMap-append, length-flatMap}
 use Rattle.octets.proofs.Numbers.{length-be}
 use Rattle.panel.specs.Panel.{Gain, Panel, Colour}
 use Rattle.panel.specs.Form.{Form}
 use Rattle.panel.specs.Parts.{has, given}
 use Rattle.panel.specs.declared.Shape.{Shape}
 use Rattle.panel.proofs.Parts.{length-optional}
-use Rattle.heif.specs.Items.{shape, colour-grid, alpha-tile, alpha-grid}
+use Rattle.heif.specs.Items.{shape, ids-from, colour-grid, alpha-tile, alpha-grid, gain-id}
 use Rattle.heif.specs.Ipco
 use Rattle.heif.specs.Ipco.{Role, tone-slots, slots}
-use Rattle.heif.specs.Ipma.{associations, associated-items, positions, essential, Association, _with_, each, gain-associations}
-use Rattle.heif.specs.Ipma.{association, ipma, turn-count, gain-association-count, association-count, ipma-size}
+use Rattle.heif.specs.Ipma.{positions, Association, _with_, each, turns, colour-tile-list, colour-grid-list, alpha-tile-list, alpha-grid-list}
+use Rattle.heif.specs.Ipma.{image-list, tone-list, colour-associations, alpha-associations, gain-associations, associations, association, ipma}
+use Rattle.heif.specs.Ipma.{turn-count, associated-items, gain-association-count, association-count, ipma-size}
 use Rattle.heif.specs.Colr.{second-colr-count, alternates-count}
 use Rattle.heif.proofs.Items.{length-ids-from, length-given}
 use Rattle.heif.proofs.Colr.{length-second-colr, length-alternates}
@@ -42,10 +44,14 @@ length-ipma-of f l = omega (arith, entries l)
     entries [] = omega (arith, zero-mul (1 + f .id))
     entries (a ∷ l) = simp (length-append, length-be, suc-mul) (omega (arith, entries l))
 
--- n items that have the same k properties, and others behind them
-width-each : (first n : ℕ) (l : List ℕ) (m : List Association) {k : ℕ} → length l ≡ k → total (map width (each first n l ‖ m)) ≡ n * k + total (map width m)
-width-each first zero l m {k} h = omega (arith, zero-mul k)
-width-each first (suc n) l m {k} h = omega (arith, width-each (suc first) n l m h, suc-mul n k)
+-- entries behind entries
+width-append : (l m : List Association) → total (map width (l ‖ m)) ≡ total (map width l) + total (map width m)
+width-append l m = ap total (map-append width l m) ∙ total-append (map width l) (map width m)
+
+-- a picture: n tiles that have the same k properties, and their grid
+width-picture : (first n id : ℕ) (l m : List ℕ) {k : ℕ} → length l ≡ k → total (map width (each first n l ‖ (id with m) ∷ [])) ≡ n * k + length m
+width-picture first zero id l m {k} h = omega (arith, zero-mul k)
+width-picture first (suc n) id l m {k} h = omega (arith, width-picture (suc first) n id l m h, suc-mul n k)
 
 -- of the tone map, wherever its positions begin
 width-tone : (id at : ℕ) (size depth : Box) (t : Option (List ℕ)) (a : Option Colour)
@@ -59,30 +65,27 @@ abbrev with-gain : Panel → Option Gain → Panel
 with-gain p g =
     record { dims = p .dims; depth = p .depth; tiles = p .tiles; alpha = p .alpha; colour = p .colour; metadata = p .metadata; gain = g }
 
-width-gain : (p : Panel) (turns : List ℕ) (g : Option Gain)
+width-gain : (p : Panel) (g : Option Gain)
     → let q = with-gain p g in
-    total (map width (gain-associations (shape q) (positions 1 (slots q)) turns)) ≡ gain-association-count (length turns) g
-width-gain p turns none = refl
-width-gain p turns (some g) = simp width-tone (omega arith)
+    let its = positions 1 (slots q) in
+    total (map width (gain-associations (shape q) its)) ≡ gain-association-count (length (turns its)) g
+width-gain p none = refl
+width-gain p (some g) = simp width-tone (omega arith)
 
 width-associations : (p : Panel) → total (map width (associations (shape p) (positions 1 (slots p)))) ≡ association-count p
 width-associations p =
     let its = positions 1 (slots p) in
     let s = shape p in
-    let turns = essential (its Ipco.irot) ‖ essential (its Ipco.imir) in
-    let colour-has = its Ipco.ispe-whole ‖ essential (its Ipco.colr-first) ‖ its Ipco.pixi-colour ‖ its Ipco.colr-second ‖ its Ipco.clli ‖ turns in
-    let alpha-has = its Ipco.ispe-whole ‖ its Ipco.pixi-alpha ‖ its Ipco.auxC-alpha ‖ turns in
-    let colour-tile-has = essential (its Ipco.hvcC-colour) ‖ essential (its Ipco.ispe-tile) ‖ essential (its Ipco.colr-first) in
-    let alpha-tile-has = essential (its Ipco.hvcC-alpha) ‖ essential (its Ipco.ispe-tile) in
-    let behind = (alpha-grid s with alpha-has) ∷ gain-associations s its turns in
-    let t : length turns ≡ turn-count (p .metadata .orientation) = simp (length-append, length-map, length-ids-from, length-optional) in
-    let c : length colour-has ≡ 3 + second-colr-count (p .colour .cicp) (p .colour .icc) + cond (has (p .metadata .light)) 1 0 + length turns
+    let t : length (turns its) ≡ turn-count (p .metadata .orientation) = simp (length-append, length-map, length-ids-from, length-optional) in
+    let c : length (colour-grid-list its) ≡ 3 + second-colr-count (p .colour .cicp) (p .colour .icc) + cond (has (p .metadata .light)) 1 0 + length (turns its)
     = simp (length-append, length-ids-from, length-second-colr, length-clli) (omega arith) in
     omega (
       arith,
-      width-each 1 (s .tiles) colour-tile-has ((colour-grid s with colour-has) ∷ each (alpha-tile s) (s .tiles) alpha-tile-has ‖ behind) {k = 3} refl,
-      width-each (alpha-tile s) (s .tiles) alpha-tile-has behind {k = 2} refl,
-      width-gain p turns (p .gain) ∙ ap (λ (k : ℕ). gain-association-count k (p .gain)) t,
+      width-append (colour-associations s its) (alpha-associations s its ‖ gain-associations s its),
+      width-append (alpha-associations s its) (gain-associations s its),
+      width-picture 1 (s .tiles) (colour-grid s) (colour-tile-list its) (colour-grid-list its) {k = 3} refl,
+      width-picture (alpha-tile s) (s .tiles) (alpha-grid s) (alpha-tile-list its) (alpha-grid-list its) {k = 2} refl,
+      width-gain p (p .gain) ∙ ap (λ (k : ℕ). gain-association-count k (p .gain)) t,
       c,
       t,
     )
@@ -93,3 +96,58 @@ length-ipma f p =
     let l = associations (shape p) its in
     length-ipma-of f l ∙ ap (λ (n : ℕ). 8 + n * (1 + f .id) + total (map width l)) (length-associations (shape p) its)
     ∙ ap (λ (n : ℕ). 8 + associated-items (shape p) * (1 + f .id) + n) (width-associations p)
+
+-- ---- the entries of each picture and of the gain map, whatever positions they name
+
+length-association : (f : Form) (id : ℕ) (l : List ℕ) → length (association f (id with l)) ≡ f .id + 1 + length l
+length-association f id l = simp (length-append, length-be) (omega arith)
+
+length-each : (f : Form) (first n : ℕ) (l : List ℕ) → length (flatMap (association f) (each first n l)) ≡ (f .id + 1 + length l) * n
+length-each f first n l =
+    ap length (flatMap-map (association f) (λ id. id with l) (ids-from first n))
+    ∙ length-flatMap (λ id. association f (id with l)) (f .id + 1 + length l) (λ id. length-association f id l) (ids-from first n)
+    ∙ ap (λ (m : ℕ). m * (f .id + 1 + length l)) (length-ids-from first n)
+    ∙ mul-comm n (f .id + 1 + length l)
+
+-- the tiles and the grid of a picture
+pub length-picture : (f : Form) (first n id : ℕ) (l m : List ℕ)
+    → length (flatMap (association f) (each first n l ‖ (id with m) ∷ [])) ≡ (f .id + 1 + length l) * n + (f .id + 1 + length m)
+length-picture f first n id l m =
+    ap length (flatMap-append (association f) (each first n l) ((id with m) ∷ []) ∙ ap (λ (r : List ℕ). flatMap (association f) (each first n l) ++ r) (flatMap-one (association f) (id with m)))
+    ∙ length-append (flatMap (association f) (each first n l)) (association f (id with m))
+    ∙ (λ i. length-each f first n l i + length-association f id m i)
+
+-- an entry that is there only if so
+pub length-given-entry : (f : Form) (b : Bool) (id : ℕ) (l : List ℕ)
+    → length (flatMap (association f) (given b ((id with l) ∷ []))) ≡ cond b (f .id + 1 + length l) 0
+unfolding flatMap
+length-given-entry f true id l = ap length (flatMap-one (association f) (id with l)) ∙ length-association f id l
+length-given-entry f false id l = refl
+
+pub length-gain-entries : (f : Form) (s : Shape) (its : Role → List ℕ)
+    → length (flatMap (association f) (gain-associations s its))
+    ≡ cond (s .gain) (f .id + 1 + length (image-list its)) 0 + cond (s .tone) (f .id + 1 + length (tone-list its)) 0
+length-gain-entries f s its =
+    ap length (flatMap-append (association f) (given (s .gain) ((gain-id s with image-list its) ∷ [])) (given (s .tone) ((gain-id s + 2 with tone-list its) ∷ [])))
+    ∙ length-append (flatMap (association f) (given (s .gain) ((gain-id s with image-list its) ∷ []))) (flatMap (association f) (given (s .tone) ((gain-id s + 2 with tone-list its) ∷ [])))
+    ∙ (λ i. length-given-entry f (s .gain) (gain-id s) (image-list its) i + length-given-entry f (s .tone) (gain-id s + 2) (tone-list its) i)
+
+-- the entries of all items, piece by piece
+pub entries-joined : (f : Form) (s : Shape) (its : Role → List ℕ)
+    → flatMap (association f) (colour-associations s its)
+    ++ (flatMap (association f) (alpha-associations s its) ++ flatMap (association f) (gain-associations s its))
+    ≡ flatMap (association f) (associations s its)
+entries-joined f s its =
+    ap (λ (r : List ℕ). flatMap (association f) (colour-associations s its) ++ r) (sym (flatMap-append (association f) (alpha-associations s its) (gain-associations s its)))
+    ∙ sym (flatMap-append (association f) (colour-associations s its) (alpha-associations s its ‖ gain-associations s its))
+
+-- the whole box
+pub length-ipma-entries : (f : Form) (s : Shape) (its : Role → List ℕ)
+    → 8 + length (ipma f (associations s its) .body)
+    ≡ 16 + (length (flatMap (association f) (colour-associations s its))
+    + (length (flatMap (association f) (alpha-associations s its)) + length (flatMap (association f) (gain-associations s its))))
+length-ipma-entries f s its =
+    let x = flatMap (association f) (colour-associations s its) in
+    let y = flatMap (association f) (alpha-associations s its) in
+    let z = flatMap (association f) (gain-associations s its) in
+    omega (arith, ap length (entries-joined f s its), length-append x (y ++ z), length-append y z)

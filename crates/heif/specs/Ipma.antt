@@ -40,21 +40,43 @@ id with l = record { id = id; properties = l }
 abbrev pub each : ℕ → ℕ → List ℕ → List Association
 each first n l = map (λ id. id with l) (ids-from first n)
 
--- its r are the positions of the role r, and turns those of the transforms
-abbrev pub gain-associations : Shape → (Ipco.Role → List ℕ) → List ℕ → List Association
-gain-associations s its turns =
-    given (s .gain) ((gain-id s with essential (its Ipco.hvcC-gain) ‖ its Ipco.ispe-gain ‖ its Ipco.pixi-gain ‖ its Ipco.auxC-gain ‖ its Ipco.colr-gain ‖ turns) ∷ [])
-    ‖ given (s .tone) ((gain-id s + 2 with its Ipco.ispe-tone ‖ its Ipco.pixi-tone ‖ its Ipco.colr-tone) ∷ [])
+-- ---- what each item is associated with, descriptive properties before the transforms; its r are the positions of the role r
 
--- by rising id, with descriptive properties before the transforms
+-- the transforms
+abbrev pub turns : (Ipco.Role → List ℕ) → List ℕ
+turns its = essential (its Ipco.irot) ‖ essential (its Ipco.imir)
+
+abbrev pub colour-tile-list : (Ipco.Role → List ℕ) → List ℕ
+colour-tile-list its = essential (its Ipco.hvcC-colour) ‖ essential (its Ipco.ispe-tile) ‖ essential (its Ipco.colr-first)
+
+abbrev pub colour-grid-list : (Ipco.Role → List ℕ) → List ℕ
+colour-grid-list its = its Ipco.ispe-whole ‖ essential (its Ipco.colr-first) ‖ its Ipco.pixi-colour ‖ its Ipco.colr-second ‖ its Ipco.clli ‖ turns its
+
+abbrev pub alpha-tile-list : (Ipco.Role → List ℕ) → List ℕ
+alpha-tile-list its = essential (its Ipco.hvcC-alpha) ‖ essential (its Ipco.ispe-tile)
+
+abbrev pub alpha-grid-list : (Ipco.Role → List ℕ) → List ℕ
+alpha-grid-list its = its Ipco.ispe-whole ‖ its Ipco.pixi-alpha ‖ its Ipco.auxC-alpha ‖ turns its
+
+abbrev pub image-list : (Ipco.Role → List ℕ) → List ℕ
+image-list its = essential (its Ipco.hvcC-gain) ‖ its Ipco.ispe-gain ‖ its Ipco.pixi-gain ‖ its Ipco.auxC-gain ‖ its Ipco.colr-gain ‖ turns its
+
+abbrev pub tone-list : (Ipco.Role → List ℕ) → List ℕ
+tone-list its = its Ipco.ispe-tone ‖ its Ipco.pixi-tone ‖ its Ipco.colr-tone
+
+-- ---- the items by rising id: the colour picture's, the alpha picture's, the gain map's
+
+abbrev pub colour-associations : Shape → (Ipco.Role → List ℕ) → List Association
+colour-associations s its = each 1 (s .tiles) (colour-tile-list its) ‖ (colour-grid s with colour-grid-list its) ∷ []
+
+abbrev pub alpha-associations : Shape → (Ipco.Role → List ℕ) → List Association
+alpha-associations s its = each (alpha-tile s) (s .tiles) (alpha-tile-list its) ‖ (alpha-grid s with alpha-grid-list its) ∷ []
+
+abbrev pub gain-associations : Shape → (Ipco.Role → List ℕ) → List Association
+gain-associations s its = given (s .gain) ((gain-id s with image-list its) ∷ []) ‖ given (s .tone) ((gain-id s + 2 with tone-list its) ∷ [])
+
 abbrev pub associations : Shape → (Ipco.Role → List ℕ) → List Association
-associations s its =
-    let turns = essential (its Ipco.irot) ‖ essential (its Ipco.imir) in
-    each 1 (s .tiles) (essential (its Ipco.hvcC-colour) ‖ essential (its Ipco.ispe-tile) ‖ essential (its Ipco.colr-first))
-    ‖ (colour-grid s with its Ipco.ispe-whole ‖ essential (its Ipco.colr-first) ‖ its Ipco.pixi-colour ‖ its Ipco.colr-second ‖ its Ipco.clli ‖ turns)
-    ∷ each (alpha-tile s) (s .tiles) (essential (its Ipco.hvcC-alpha) ‖ essential (its Ipco.ispe-tile))
-    ‖ (alpha-grid s with its Ipco.ispe-whole ‖ its Ipco.pixi-alpha ‖ its Ipco.auxC-alpha ‖ turns)
-    ∷ gain-associations s its turns
+associations s its = colour-associations s its ‖ alpha-associations s its ‖ gain-associations s its
 
 -- id, count of associations, the associations
 abbrev pub association : Form → Association → List ℕ
@@ -65,6 +87,7 @@ ipma f l = full "ipma" (f .step) 0 (be 4 (length l) ‖ flatMap (association f) 
 
 -- ---- how many bytes its body has: the items that it names, and what each is associated with
 
+-- how many transforms an orientation has
 abbrev pub turn-count : Orientation → ℕ
 turn-count o = irot-count o + imir-count o
 

@@ -31,8 +31,8 @@ use Rattle.plan_runs.specs.declared.pictures.ColorPlaces.{ColorPlaces}
 use Rattle.plan_runs.specs.declared.pictures.AlphaPlaces.{AlphaPlaces}
 use Rattle.plan_runs.specs.declared.pictures.OptionPlaces.{OptionPlaces}
 use Rattle.plan_positions.specs.Gain.{toned-alternates}
-use Rattle.plan_positions.specs.Roles.{its-of, Placed}
-use Rattle.plan_positions.specs.declared.Places.{Places}
+use Rattle.plan_runs.specs.Roles.{its-of, Placed}
+use Rattle.plan_runs.specs.declared.Places.{Places}
 
 -- all places, with c second colr, r irot, m imir, l clli, g boxes of each kind of the gain image, t of the tone map, and a alternate colours
 abbrev pub laid : ℕ → ℕ → ℕ → ℕ → ℕ → ℕ → ℕ → Places

@@ -18,7 +18,7 @@ ghost use Rattle.heif.specs.Imir.{imir-count};
 ghost use Rattle.plan_runs.specs.Pictures.{options-at, Narrow-options};
 ghost use Rattle.plan_runs.specs.GainMap.{Narrow-image, Narrow-tone};
 ghost use Rattle.plan_positions.specs.Gain.{toned-alternates, gain-at, behind-gain};
-ghost use Rattle.plan_positions.specs.Roles.{Placed, Narrow-places};
+ghost use Rattle.plan_runs.specs.Roles.{Placed, Narrow-places};
 use crate::counts::alternate_count;
 use crate::counts::imir_count;
 use crate::counts::irot_count;
@@ -33,26 +33,12 @@ use panel::color::MaybeColorMetadata;
 use panel::gain_map::MaybeGainMap;
 use panel::part::Part;
 use panel::part::when;
+use plan_runs::Places;
 use plan_runs::Positions;
-use plan_runs::gain_map::ImagePlaces;
-use plan_runs::gain_map::TonePlaces;
-use plan_runs::pictures::AlphaPlaces;
-use plan_runs::pictures::ColorPlaces;
-use plan_runs::pictures::OptionPlaces;
 use plan_runs::pictures::PlacedOptions;
 use plan_runs::pictures::alpha_places;
 use plan_runs::pictures::color_places;
 use plan_runs::pictures::option_places;
-
-// The places of all properties, and how many properties there are.
-pub struct Places {
-    pub color: ColorPlaces,
-    pub alpha: AlphaPlaces,
-    pub options: OptionPlaces,
-    pub image: ImagePlaces,
-    pub tone: TonePlaces,
-    pub count: u8,
-}
 
 // How many colr the alternate colour has beside a tone map.
 fn tone_alternates(tmap: Part, alternate: MaybeColorMetadata) -> u32

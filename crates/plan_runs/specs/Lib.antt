@@ -1,5 +1,4 @@
-pub mod Counts
 pub mod Runs
-pub mod GainMap
-pub mod Lists
 pub mod Pictures
+pub mod GainMap
+pub mod Roles

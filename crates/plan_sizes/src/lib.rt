@@ -18,7 +18,7 @@ ghost use Rattle.heif.specs.Iref.{iref-size};
 ghost use Rattle.heif.specs.Idat.{descriptor-size};
 ghost use Rattle.heif.specs.Mdat.{exif-size, mdat-size};
 ghost use Rattle.plan_items.specs.Payloads.{payload-lengths};
-ghost use Rattle.plan_positions.specs.Roles.{Placed, Narrow-places};
+ghost use Rattle.plan_runs.specs.Roles.{Placed, Narrow-places};
 ghost use Rattle.plan_sizes.specs.Capped.{Capped, Length-of, Capped-payloads, Gain-measured, Measured};
 ghost use Rattle.plan_sizes.specs.Sized.{Sized, Small};
 use crate::lengths::GainLengths;
@@ -36,8 +36,8 @@ use plan_items::form::ids_bytes;
 use plan_items::ids::last_id;
 use plan_items::payloads::PayloadLengths;
 use plan_items::shape::is_present;
-use plan_positions::Places;
 use plan_positions::associations::ipma_bytes;
+use plan_runs::Places;
 
 // The whole size of each box, and of the payloads behind the samples. Where a byte part is too long for a file, ipco, iprp, meta, mdat, exif
 // and gain only stand for the true sizes (`Capped`).

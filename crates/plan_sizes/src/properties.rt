@@ -10,7 +10,7 @@ ghost use Rattle.panel.specs.Parts.{has, long};
 ghost use Rattle.heif.specs.Colr.{first-colr-size, second-colr-count, second-colr-size, alternates-count, stated-size, alternates-size};
 ghost use Rattle.heif.specs.Ipco.{gain-property-count, tone-properties-size, gain-properties-size, ipco-size};
 ghost use Rattle.plan_runs.specs.Pictures.{Narrow-options};
-ghost use Rattle.plan_positions.specs.Roles.{Placed};
+ghost use Rattle.plan_runs.specs.Roles.{Placed};
 ghost use Rattle.plan_sizes.specs.Capped.{Capped, Length-of, Measured};
 use crate::lengths::Lengths;
 use panel::Panel;
@@ -21,7 +21,7 @@ use panel::gain_map::MaybeGainMap;
 use panel::part::Part;
 use panel::part::when;
 use plan_items::shape::has_cicp;
-use plan_positions::Places;
+use plan_runs::Places;
 use plan_runs::pictures::OptionPlaces;
 
 // ---- what the properties hold, beside the eight bytes that head each of them: a colr 11 bytes by code points, 4 and the profile by ICC

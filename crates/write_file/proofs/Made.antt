@@ -26,7 +26,7 @@ use Rattle.heif.specs.File.{data-at, file}
 use Rattle.heif.proofs.Mdat.{flatten-samples, lengths-samples, cut}
 use Rattle.heif.proofs.Iloc.{locations-runs}
 use Rattle.plan_items.specs.Payloads.{payload-lengths}
-use Rattle.plan_positions.specs.Roles.{its-of}
+use Rattle.plan_runs.specs.Roles.{its-of}
 use Rattle.plan_layout.specs.Laid.{Laid}
 use Rattle.plan_layout.specs.declared.Layout.{Layout}
 use Rattle.plan.specs.Plan.{Made-from}

@@ -40,9 +40,8 @@ use Rattle.heif.proofs.Mdat.{length-mdat}
 use Rattle.heif.proofs.File.{data-at-size, length-file}
 use Rattle.plan_items.specs.Items.{Shaped}
 use Rattle.plan_items.specs.declared.payloads.PayloadLengths.{PayloadLengths}
-use Rattle.plan_positions.specs.Roles.{its-of}
-use Rattle.plan_positions.specs.Counts.{ipma-bytes}
-use Rattle.plan_positions.specs.declared.Places.{Places}
+use Rattle.plan_runs.specs.Roles.{its-of}
+use Rattle.plan_runs.specs.declared.Places.{Places}
 use Rattle.plan_positions.proofs.Sizes.{associated-alike, ipma-by-runs}
 use Rattle.plan_sizes.proofs.Caps.{together}
 use Rattle.plan_layout.specs.Laid.{Laid}
@@ -130,15 +129,15 @@ module _ (n : Numbers) (l : Lent) where
     pub same-associations : associations (shape p) (its-of z) ≡ associations (shape p) (positions 1 (slots p))
     same-associations = associated-alike p z (made .placed)
 
-    its-ipma : 8 + ipma-size w p ≡ ipma-bytes w (shape p) z
-    its-ipma = ipma-by-runs w p z (made .placed)
+    its-ipma : 8 + ipma-size w p ≡ 8 + length (ipma w (associations (shape p) (its-of z)) .body)
+    its-ipma = ap (λ (k : ℕ). 8 + k) (sym (ipma-by-runs w p z (made .placed)))
 
     pub property-sizes : Property-sizes w q y z (n .dims)
     property-sizes =
         let at : shape p ≡ y .shape = sym (e .items) in
         record {
           ipco = e .ipco ∙ ap (λ (k : ℕ). 8 + k) (length-ipco p ∙ ipco-size-parts n l);
-          ipma = e .ipma ∙ ap (λ (k : ℕ). 8 + k) (length-ipma w p) ∙ its-ipma ∙ ap (λ (s : Shape). ipma-bytes w s z) at;
+          ipma = e .ipma ∙ ap (λ (k : ℕ). 8 + k) (length-ipma w p) ∙ its-ipma ∙ ap (λ (s : Shape). 8 + length (ipma w (associations s (its-of z)) .body)) at;
           iprp = e .iprp ∙ ap (λ (k : ℕ). 8 + k) (length-iprp w p) ∙ (λ i. 8 + ((8 + ipco-size-parts n l i) + its-ipma i)) ∙ ap (λ (s : Shape). iprp-bytes w q s z) at;
           idat = omega (arith, e .idat, length-idat (p .dims)) ∙ ap (λ (d : GridDims). 8 + idat-size d) same-dims;
           short = omega (arith, fits, ipco-size-parts n l);

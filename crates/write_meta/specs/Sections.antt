@@ -2,6 +2,7 @@
 use mathlib.Core.Path.{_≡_}
 use mathlib.Core.List.{List, [], _∷_}
 use Prim.Native.Nat.{ℕ, _+_, _<_}
+use lib.ListN.{length}
 use Rattle.octets.specs.Numbers.{_‖_}
 use Rattle.octets.specs.Boxes.{Box, box, boxes}
 use Rattle.panel.specs.Panel.{Panel}
@@ -18,9 +19,8 @@ use Rattle.heif.specs.Pitm.{pitm}
 use Rattle.heif.specs.Grpl.{grpl, grpl-size}
 use Rattle.heif.specs.Idat.{idat, idat-size}
 use Rattle.plan_items.specs.Items.{Shaped}
-use Rattle.plan_positions.specs.Roles.{its-of}
-use Rattle.plan_positions.specs.Counts.{ipma-bytes}
-use Rattle.plan_positions.specs.declared.Places.{Places}
+use Rattle.plan_runs.specs.Roles.{its-of}
+use Rattle.plan_runs.specs.declared.Places.{Places}
 use Rattle.plan_layout.specs.declared.Layout.{Layout}
 
 -- hdlr to iref
@@ -42,7 +42,7 @@ abbrev pub iprp-of : Form → Panel → Shape → Places → Box
 iprp-of f p s y = box "iprp" (boxes (ipco p ∷ ipma f (associations s (its-of y)) ∷ []))
 
 abbrev pub iprp-bytes : Form → Panel → Shape → Places → ℕ
-iprp-bytes f p s y = 8 + ((8 + ipco-size p) + ipma-bytes f s y)
+iprp-bytes f p s y = 8 + ((8 + ipco-size p) + (8 + length (ipma f (associations s (its-of y)) .body)))
 
 -- iprp to idat
 abbrev pub property-boxes : Form → Panel → Shape → Places → GridDims → List Box
@@ -53,7 +53,7 @@ property-boxes-size f p s y d = iprp-bytes f p s y + (grpl-size s + (8 + idat-si
 
 pub record Property-sizes (f : Form) (p : Panel) (y : Layout) (z : Places) (d : GridDims) : Type 0 where
   pub ipco : y .ipco ≡ 8 + ipco-size p
-  pub ipma : y .ipma ≡ ipma-bytes f (y .shape) z
+  pub ipma : y .ipma ≡ 8 + length (ipma f (associations (y .shape) (its-of z)) .body)
   pub iprp : y .iprp ≡ iprp-bytes f p (y .shape) z
   pub idat : y .idat ≡ 8 + idat-size d
   pub short : 8 + ipco-size p < 4294967296

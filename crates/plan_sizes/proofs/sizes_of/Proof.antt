@@ -1,8 +1,9 @@
 -- Box by box.
-use mathlib.Core.Path.{_≡_, sym, ap, _∙_}
+use mathlib.Core.Path.{_≡_, ap, _∙_}
 use mathlib.Core.Bool.{cond}
 use Prim.Native.Nat.{ℕ, _+_, _*_}
 use native.Mathlib.Omega.{arith}
+use lib.ListN.{length}
 use borrow.Author.Needs.{needs}
 use Rattle.panel.specs.Of.{panel-of}
 use Rattle.panel.specs.Form.{form-of}
@@ -12,7 +13,8 @@ use Rattle.heif.specs.Iinf.{iinf-size}
 use Rattle.heif.specs.Iref.{iref-size}
 use Rattle.heif.specs.Idat.{idat-size}
 use Rattle.heif.specs.Ftyp.{ftyp-size}
-use Rattle.plan_positions.specs.Counts.{ipma-bytes}
+use Rattle.heif.specs.Ipma.{associations, ipma}
+use Rattle.plan_runs.specs.Roles.{its-of}
 use Rattle.plan_positions.proofs.Sizes.{ipma-by-runs}
 use Rattle.plan_sizes.proofs.Caps.{iprp-capped, meta-capped}
 use Rattle.plan_sizes.proofs.sizes_of.Statement.{statement}
@@ -38,7 +40,7 @@ returns c =
           let w = form-of (start .args .form) in
           let p = panel-of (start .args .panel) l in
           let id : c6 .ids-bytes .result ≡ w .id = omega (arith, c6 .ids-bytes .ensures .0) in
-          let ipma = (c4 .ipma-bytes .ensures) .0 ∙ ap (λ (s : Shape). ipma-bytes w s z) e ∙ sym (ipma-by-runs w p z f) in
+          let ipma = (c4 .ipma-bytes .ensures) .0 ∙ ap (λ (s : Shape). 8 + length (ipma w (associations s (its-of z)) .body)) e ∙ ap (λ (k : ℕ). 8 + k) (ipma-by-runs w p z f) in
           let iloc = (c1 .iloc-size .ensures) ∙ ap (λ (s : Shape). 8 + iloc-size w s) e in
           let iinf = (c2 .iinf-size .ensures) ∙ ap (λ (s : Shape). 8 + iinf-size w s) e in
           let iref = (c3 .iref-size .ensures) ∙ ap (λ (s : Shape). 8 + iref-size w s) e in

@@ -5,19 +5,10 @@ use Prim.Native.Nat.{ℕ, _+_}
 use native.Mathlib.Omega.{arith}
 use borrow.Author.Needs.{needs}
 use Rattle.panel.specs.Form.{form-of}
+use Rattle.heif.proofs.Ipma.{length-gain-entries, length-ipma-entries}
+use Rattle.plan_runs.specs.Roles.{its-of}
 use Rattle.plan_positions.proofs.associations.ipma_bytes.Statement.{statement}
 use Rattle.plan_positions.proofs.associations.ipma_bytes.Tie as tie
-
-image-count-requires : tie.Need-image-count-requires
-image-count-requires c κs =
-    let c1 = c .before .before in
-    let fit = c1 .before .before .before .before .before .before .before .before .pre .1 in
-    (fit .image, (fit .options .irot, fit .options .imir))
-
-tone-count-requires : tie.Need-tone-count-requires
-tone-count-requires c κs =
-    let c1 = c .before .before .before .before in
-    c1 .before .before .before .before .before .before .before .before .pre .1 .tone
 
 returns : tie.Need-returns
 returns c =
@@ -28,12 +19,13 @@ returns c =
     let c3 = c4 .before in
     let c2 = c3 .before in
     let c1 = c2 .before in
-    let start = c1 .before .before .before .before .before .before .before .before in
-    let f = form-of (start .args .form) in
+    let a = c1 .before .args in
+    let f = form-of (a .form) in
+    let its = its-of (a .y) in
     let head : c3 .ids-bytes .result + 1 ≡ f .id + 1 = omega (arith, c3 .ids-bytes .ensures .0) in
-    let image = (c5 .when .ensures) .0 ∙ (λ i. cond {A = ℕ} (start .args .s .gain) (head i + (c4 .image-count .ensures) i) 0) in
-    let tone = (c7 .when2 .ensures) .0 ∙ (λ i. cond {A = ℕ} (start .args .s .tone) (head i + (c6 .tone-count .ensures) i) 0) in
-    (omega (arith, (c1 .color-entries-size .ensures) .0, (c2 .alpha-entries-size .ensures) .0, image, tone), omega (arith, (c1 .color-entries-size .ensures) .1, (c2 .alpha-entries-size .ensures) .1, (c5 .when .ensures) .1, (c7 .when2 .ensures) .1, c3 .ids-bytes .ensures .1))
+    let image = (c5 .when .ensures) .0 ∙ (λ i. cond {A = ℕ} (a .s .gain) (head i + (c4 .image-count .ensures) i) 0) in
+    let tone = (c7 .when2 .ensures) .0 ∙ (λ i. cond {A = ℕ} (a .s .tone) (head i + (c6 .tone-count .ensures) i) 0) in
+    (omega (arith, (c1 .color-entries-size .ensures) .0, (c2 .alpha-entries-size .ensures) .0, image, tone, length-gain-entries f (a .s) its, length-ipma-entries f (a .s) its), omega (arith, (c1 .color-entries-size .ensures) .1, (c2 .alpha-entries-size .ensures) .1, (c5 .when .ensures) .1, (c7 .when2 .ensures) .1, c3 .ids-bytes .ensures .1))
 
 pub ipma-bytes-spec : {M : Type 1} → statement M
-ipma-bytes-spec = tie.close (tie.spec (λ c κs. search needs) (λ c κs. search needs) (λ c κs. search needs) (λ c. search needs) image-count-requires (λ c. search needs) (λ c. search needs) (λ c κs. search needs) tone-count-requires (λ c. search needs) (λ c. search needs) (λ c κs. search needs) (λ c. search needs) (λ c. search needs) (λ c. search needs) (λ c. search needs) returns)
+ipma-bytes-spec = tie.close (tie.spec (λ c κs. search needs) (λ c κs. search needs) (λ c κs. search needs) (λ c. search needs) (λ c κs. search needs) (λ c. search needs) (λ c. search needs) (λ c κs. search needs) (λ c κs. search needs) (λ c. search needs) (λ c. search needs) (λ c κs. search needs) (λ c. search needs) (λ c. search needs) (λ c. search needs) (λ c. search needs) returns)

@@ -1,15 +1,15 @@
 -- The head and the list, or nothing.
-use mathlib.Core.Path.{refl, sym, ap, _∙_}
+use mathlib.Core.Path.{refl, ap}
 use mathlib.Core.Bool.{Bool, cond}
 use mathlib.Core.List.{flatMap}
 use Prim.Native.Nat.{ℕ, _+_}
+use lib.ListN.{length}
 use native.Mathlib.Omega.{arith}
 use borrow.Author.Needs.{needs}
 use Rattle.octets.proofs.Stores.{_▹_, kept, told, nothing}
 use Rattle.panel.specs.Form.{form-of}
-use Rattle.plan_runs.specs.Counts.{image-count}
-use Rattle.plan_runs.specs.Lists.{image-list}
-use Rattle.plan_positions.proofs.Lengths.{length-image-list}
+use Rattle.heif.specs.Ipma.{image-list}
+use Rattle.plan_runs.specs.Roles.{its-of}
 use Rattle.write_ipma_lists.proofs.Marks.{associated}
 use Rattle.write_ipma.proofs.gain_map.write_image_association.Statement.{statement}
 use Rattle.write_ipma.proofs.gain_map.write_image_association.Tie as tie
@@ -18,14 +18,14 @@ write-association-head-requires : tie.Need-write-association-head-requires
 write-association-head-requires c κs =
     let i = c .before .before .before in
     let start = i .before .before in
-    omega (arith, start .pre .0, ap (λ (b : Bool). cond {A = ℕ} b (form-of (start .args .form) .id + 1 + image-count (start .args .p) (start .args .irot) (start .args .imir)) 0) (i .if1 .taken))
+    omega (arith, start .pre .0, ap (λ (b : Bool). cond {A = ℕ} b (form-of (start .args .form) .id + 1 + length (image-list (its-of (start .args .y)))) 0) (i .if1 .taken))
 
 write-image-list-requires : tie.Need-write-image-list-requires
 write-image-list-requires c κs =
     let c3 = c .before .before .before in
     let i = c3 .before .before .before .before in
     let start = i .before .before in
-    (omega (arith, start .pre .0, ap (λ (b : Bool). cond {A = ℕ} b (form-of (start .args .form) .id + 1 + image-count (start .args .p) (start .args .irot) (start .args .imir)) 0) (i .if1 .taken), (c3 .write-association-head .ensures) .end, kept (c3 .write-association-head .ensures)), start .pre .1 .1)
+    (omega (arith, start .pre .0, ap (λ (b : Bool). cond {A = ℕ} b (form-of (start .args .form) .id + 1 + length (image-list (its-of (start .args .y)))) 0) (i .if1 .taken), (c3 .write-association-head .ensures) .end, kept (c3 .write-association-head .ensures)), start .pre .1 .1)
 
 returns : tie.Need-returns
 returns c =
@@ -35,7 +35,7 @@ returns c =
     let c1 = c2 .before .before in
     let i = c1 .before in
     let a = i .before .before .args in
-    rw (i .if1 .taken) (told ((c3 .write-association-head .ensures) ▹ (c4 .write-image-list .ensures)) (associated (form-of (a .form)) (image-list (a .p) (a .irot) (a .imir)) (c1 .gain-id .ensures) ((c2 .image-count .ensures) ∙ sym (length-image-list (a .p) (a .irot) (a .imir)))) refl)
+    rw (i .if1 .taken) (told ((c3 .write-association-head .ensures) ▹ (c4 .write-image-list .ensures)) (associated (form-of (a .form)) (image-list (its-of (a .y))) (c1 .gain-id .ensures) (c2 .image-count .ensures)) refl)
 
 returns-2 : tie.Need-returns-2
 unfolding flatMap

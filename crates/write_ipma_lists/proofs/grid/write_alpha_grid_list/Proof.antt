@@ -2,16 +2,38 @@
 use mathlib.Core.List.{append-assoc}
 use native.Mathlib.Omega.{arith}
 use borrow.Author.Needs.{needs}
-use Rattle.octets.proofs.Stores.{_▹_, told}
+use Rattle.octets.proofs.Stores.{told, _▹_, kept}
+use Rattle.plan_runs.specs.Roles.{its-of}
+use Rattle.plan_runs.proofs.Lengths.{length-alpha-grid-list}
 use Rattle.write_ipma_lists.proofs.grid.write_alpha_grid_list.Statement.{statement}
 use Rattle.write_ipma_lists.proofs.grid.write_alpha_grid_list.Tie as tie
 
+write-runs-requires : tie.Need-write-runs-requires
+write-runs-requires c κs =
+    let start = c .before .before .before .before .before .before .before .before .before .before in
+    (omega (arith, start .pre .0, length-alpha-grid-list (start .args .y)), (start .pre .1 .color .full, (start .pre .1 .alpha .pixi, start .pre .1 .alpha .auxc)))
+
+write-run-requires : tie.Need-write-run-requires
+write-run-requires c κs =
+    let c1 = c .before .before .before in
+    let start = c1 .before .before .before .before .before .before .before .before .before .before .before in
+    (omega (arith, start .pre .0, length-alpha-grid-list (start .args .y), (c1 .write-runs .ensures) .end, kept (c1 .write-runs .ensures)), start .pre .1 .options .irot)
+
+write-run-requires-2 : tie.Need-write-run-requires-2
+write-run-requires-2 c κs =
+    let c2 = c .before .before .before in
+    let c1 = c2 .before .before .before .before in
+    let start = c1 .before .before .before .before .before .before .before .before .before .before .before in
+    (omega (arith, start .pre .0, length-alpha-grid-list (start .args .y), (c1 .write-runs .ensures) .end, kept (c1 .write-runs .ensures), (c2 .write-run .ensures) .end, kept (c2 .write-run .ensures)), start .pre .1 .options .imir)
+
 returns : tie.Need-returns
+unfolding its-of
 returns c =
     let c3 = c .before .before in
     let c2 = c3 .before .before .before .before in
     let c1 = c2 .before .before .before .before in
-    told ((c1 .write-runs .ensures) ▹ (c2 .write-run .ensures) ▹ (c3 .write-run2 .ensures)) (simp append-assoc) (omega arith)
+    let start = c1 .before .before .before .before .before .before .before .before .before .before .before in
+    told ((c1 .write-runs .ensures) ▹ (c2 .write-run .ensures) ▹ (c3 .write-run2 .ensures)) (simp append-assoc) (omega (arith, length-alpha-grid-list (start .args .y)))
 
 pub write-alpha-grid-list-spec : {M : Type 1} → statement M
-write-alpha-grid-list-spec = tie.close (tie.spec (λ c κs. search needs) (λ c κs. search needs) (λ c κs. search needs) (λ c. search needs) returns)
+write-alpha-grid-list-spec = tie.close (tie.spec write-runs-requires write-run-requires write-run-requires-2 (λ c. search needs) returns)

@@ -1,17 +1,58 @@
--- Three roles, and those that may be absent.
-use mathlib.Core.Path.{refl}
+-- The seven roles, three of them at once.
+use mathlib.Core.List.{append-assoc}
+use native.Mathlib.Omega.{arith}
 use borrow.Author.Needs.{needs}
-use Rattle.octets.proofs.Stores.{_▹_, told}
+use Rattle.octets.proofs.Stores.{told, _▹_, kept}
+use Rattle.plan_runs.specs.Roles.{its-of}
+use Rattle.plan_runs.proofs.Lengths.{length-colour-grid-list}
 use Rattle.write_ipma_lists.proofs.grid.write_color_grid_list.Statement.{statement}
 use Rattle.write_ipma_lists.proofs.grid.write_color_grid_list.Tie as tie
 
-returns : tie.Need-returns
-returns c =
-    let c4 = c .before .before in
+write-run-requires : tie.Need-write-run-requires
+write-run-requires c κs =
+    let start = c .before .before .before .before .before .before .before .before .before .before .before in
+    (omega (arith, start .pre .0, length-colour-grid-list (start .args .y)), start .pre .1 .color .full)
+
+write-run-requires-2 : tie.Need-write-run-requires-2
+write-run-requires-2 c κs =
+    let c1 = c .before .before .before in
+    let start = c1 .before .before .before .before .before .before .before .before .before .before .before .before in
+    (omega (arith, start .pre .0, length-colour-grid-list (start .args .y), (c1 .write-run .ensures) .end, kept (c1 .write-run .ensures)), start .pre .1 .color .colr)
+
+write-runs-requires : tie.Need-write-runs-requires
+write-runs-requires c κs =
+    let c2 = c .before .before .before in
+    let c1 = c2 .before .before .before .before in
+    let start = c1 .before .before .before .before .before .before .before .before .before .before .before .before in
+    (omega (arith, start .pre .0, length-colour-grid-list (start .args .y), (c1 .write-run .ensures) .end, kept (c1 .write-run .ensures), (c2 .write-run2 .ensures) .end, kept (c2 .write-run2 .ensures)), (start .pre .1 .color .pixi, (start .pre .1 .options .colr, start .pre .1 .options .clli)))
+
+write-run-requires-3 : tie.Need-write-run-requires-3
+write-run-requires-3 c κs =
+    let c3 = c .before .before .before in
+    let c2 = c3 .before .before .before .before in
+    let c1 = c2 .before .before .before .before in
+    let start = c1 .before .before .before .before .before .before .before .before .before .before .before .before in
+    (omega (arith, start .pre .0, length-colour-grid-list (start .args .y), (c1 .write-run .ensures) .end, kept (c1 .write-run .ensures), (c2 .write-run2 .ensures) .end, kept (c2 .write-run2 .ensures), (c3 .write-runs .ensures) .end, kept (c3 .write-runs .ensures)), start .pre .1 .options .irot)
+
+write-run-requires-4 : tie.Need-write-run-requires-4
+write-run-requires-4 c κs =
+    let c4 = c .before .before .before in
     let c3 = c4 .before .before .before .before in
     let c2 = c3 .before .before .before .before in
     let c1 = c2 .before .before .before .before in
-    told ((c1 .write-run .ensures) ▹ (c2 .write-run2 .ensures) ▹ (c3 .write-run3 .ensures) ▹ (c4 .write-option-list .ensures)) refl refl
+    let start = c1 .before .before .before .before .before .before .before .before .before .before .before .before in
+    (omega (arith, start .pre .0, length-colour-grid-list (start .args .y), (c1 .write-run .ensures) .end, kept (c1 .write-run .ensures), (c2 .write-run2 .ensures) .end, kept (c2 .write-run2 .ensures), (c3 .write-runs .ensures) .end, kept (c3 .write-runs .ensures), (c4 .write-run3 .ensures) .end, kept (c4 .write-run3 .ensures)), start .pre .1 .options .imir)
+
+returns : tie.Need-returns
+unfolding its-of
+returns c =
+    let c5 = c .before .before in
+    let c4 = c5 .before .before .before .before in
+    let c3 = c4 .before .before .before .before in
+    let c2 = c3 .before .before .before .before in
+    let c1 = c2 .before .before .before .before in
+    let start = c1 .before .before .before .before .before .before .before .before .before .before .before .before in
+    told ((c1 .write-run .ensures) ▹ (c2 .write-run2 .ensures) ▹ (c3 .write-runs .ensures) ▹ (c4 .write-run3 .ensures) ▹ (c5 .write-run4 .ensures)) (simp append-assoc) (omega (arith, length-colour-grid-list (start .args .y)))
 
 pub write-color-grid-list-spec : {M : Type 1} → statement M
-write-color-grid-list-spec = tie.close (tie.spec (λ c κs. search needs) (λ c κs. search needs) (λ c κs. search needs) (λ c κs. search needs) (λ c. search needs) returns)
+write-color-grid-list-spec = tie.close (tie.spec write-run-requires write-run-requires-2 write-runs-requires write-run-requires-3 write-run-requires-4 (λ c. search needs) returns)

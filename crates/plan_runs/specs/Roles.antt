@@ -6,10 +6,10 @@ use lib.ListN.{length}
 use Rattle.panel.specs.Panel.{Panel}
 use Rattle.heif.specs.Ipco
 use Rattle.heif.specs.Ipma.{positions}
 use Rattle.plan_runs.specs.Runs.{places}
 use Rattle.plan_runs.specs.Pictures.{Narrow-colour, Narrow-alpha, Narrow-options}
 use Rattle.plan_runs.specs.GainMap.{Narrow-image, Narrow-tone}
-use Rattle.plan_positions.specs.declared.Places.{Places}
+use Rattle.plan_runs.specs.declared.Places.{Places}
 
 unfoldable pub its-of : Places → Ipco.Role → List ℕ
 its-of y Ipco.hvcC-colour = places (y .color .hvcc)
