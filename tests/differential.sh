@@ -2,7 +2,7 @@
 # The writer is compared with upstream's, which is built from its own source; see tests/differential. The source is looked
 # for in the folder that KAHOPIRU_UPSTREAM names, else in ../shared/docs/src beside the repository. Where it is not there the
 # comparison is left out and a line says so; with the word `oracle` in KAHOPIRU_REQUIRE that is a failure. So it is with the sheets that
-# go through the program panel_sheet, where that cannot be built.
+# go through target/bin/program_panel, where that cannot be built.
 set -euo pipefail
 upstream=$(realpath -m -- "${KAHOPIRU_UPSTREAM:-$(dirname "$0")/../../shared/docs/src}")
 cd "$(dirname "$0")/.."
@@ -23,8 +23,8 @@ cd tests/differential
 cargo build --quiet --offline --release --locked
 program=../../target/cargo/release/differential
 "$program" "$@" | tee "$log"
-grep -qE '^panel_sheet: [1-9][0-9]* of them through the program$' "$log" ||
-    left_out oracle "the comparison of the program: no sheet went through target/bin/panel_sheet"
+grep -qE '^program_panel: [1-9][0-9]* of them through the program$' "$log" ||
+    left_out oracle "the comparison of the program: no sheet went through target/bin/program_panel"
 
 # holds WORD FILE: what upstream writes, as `differential WORD` prints it, is what FILE has
 holds() {
@@ -35,4 +35,4 @@ holds() {
     echo "differential: $2 holds what upstream writes"
 }
 holds vectors tests/vectors/upstream.txt
-holds stored crates/stored_files/stdout
+holds stored crates/program_files/stdout

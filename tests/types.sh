@@ -22,7 +22,7 @@ mistaken() {
     cp "crates/$1/src/$2" "$copy/crates/$1/src/$2"
 }
 
-for crate in boxes locations gain_positions; do
+for crate in plan_runs write_ids write_iloc write_ipma; do
     compiles "$crate" || fail "the unedited copy of $crate does not compile: $(tail -n 3 "$copy/out")"
 done
 
@@ -30,23 +30,23 @@ done
 position='panel::PropertyPosition(1)'
 for_ordinary="expected \`ItemId\`, found \`PropertyPosition\`"
 for_counted="expected \`WideItemId\`, found \`PropertyPosition\`"
-mistaken boxes ids.rt 'write_ordinary_id(out, at, ordinary_id(id))' "write_ordinary_id(out, at, $position)" "$for_ordinary"
-mistaken boxes ids.rt 'write_id(out, a, form, WideItemId(id))' "write_id(out, a, form, $position)" "$for_counted"
-mistaken boxes association.rt 'write_ordinary_head(out, at, ordinary_id(id)' "write_ordinary_head(out, at, $position" "$for_ordinary"
-mistaken boxes association.rt 'write_association_head(out, at, form, id' "write_association_head(out, at, form, $position" "$for_counted"
-mistaken boxes association.rt 'write_color_tile_association(out, a, form, WideItemId(id)' "write_color_tile_association(out, a, form, $position" "$for_counted"
-mistaken boxes association.rt 'write_alpha_tile_association(out, a, form, WideItemId(id)' "write_alpha_tile_association(out, a, form, $position" "$for_counted"
-mistaken locations lib.rt 'write_ordinary_location(out, at, ordinary_id(id)' "write_ordinary_location(out, at, $position" "$for_ordinary"
-mistaken locations lib.rt 'write_location(out, a, form, WideItemId(id)' "write_location(out, a, form, $position" "$for_counted"
+mistaken write_ids lib.rt 'write_ordinary_id(out, at, ordinary_id(id))' "write_ordinary_id(out, at, $position)" "$for_ordinary"
+mistaken write_ids lib.rt 'write_id(out, a, form, WideItemId(id))' "write_id(out, a, form, $position)" "$for_counted"
+mistaken write_ipma association.rt 'write_ordinary_head(out, at, ordinary_id(id)' "write_ordinary_head(out, at, $position" "$for_ordinary"
+mistaken write_ipma association.rt 'write_association_head(out, at, form, id' "write_association_head(out, at, form, $position" "$for_counted"
+mistaken write_ipma association.rt 'write_color_tile_association(out, a, form, WideItemId(id)' "write_color_tile_association(out, a, form, $position" "$for_counted"
+mistaken write_ipma association.rt 'write_alpha_tile_association(out, a, form, WideItemId(id)' "write_alpha_tile_association(out, a, form, $position" "$for_counted"
+mistaken write_iloc location.rt 'write_ordinary_location(out, at, ordinary_id(id)' "write_ordinary_location(out, at, $position" "$for_ordinary"
+mistaken write_iloc location.rt 'write_location(out, a, form, WideItemId(id)' "write_location(out, a, form, $position" "$for_counted"
 
 # An id over u32 for one over u16.
 uncut="expected \`ItemId\`, found \`WideItemId\`"
-mistaken boxes ids.rt 'write_ordinary_id(out, at, ordinary_id(id))' 'write_ordinary_id(out, at, id)' "$uncut"
-mistaken boxes association.rt 'write_ordinary_head(out, at, ordinary_id(id)' 'write_ordinary_head(out, at, id' "$uncut"
-mistaken locations lib.rt 'write_ordinary_location(out, at, ordinary_id(id)' 'write_ordinary_location(out, at, id' "$uncut"
+mistaken write_ids lib.rt 'write_ordinary_id(out, at, ordinary_id(id))' 'write_ordinary_id(out, at, id)' "$uncut"
+mistaken write_ipma association.rt 'write_ordinary_head(out, at, ordinary_id(id)' 'write_ordinary_head(out, at, id' "$uncut"
+mistaken write_iloc location.rt 'write_ordinary_location(out, at, ordinary_id(id)' 'write_ordinary_location(out, at, id' "$uncut"
 
 # An id for a position: where positions are counted, and in a run that goes to ipma's writers.
-mistaken gain_positions lib.rt 'PropertyPosition(e.0 + k)' 'panel::ItemId(1)' "expected \`PropertyPosition\`, found \`ItemId\`"
-mistaken gain_positions lib.rt 'PropertyPosition(e.0 + k)' 'panel::WideItemId(1)' "expected \`PropertyPosition\`, found \`WideItemId\`"
-mistaken gain_positions lib.rt 'first: c,' 'first: panel::ItemId(1),' "expected \`PropertyPosition\`, found \`ItemId\`"
+mistaken plan_runs gain_map.rt 'PropertyPosition(e.0 + k)' 'panel::ItemId(1)' "expected \`PropertyPosition\`, found \`ItemId\`"
+mistaken plan_runs gain_map.rt 'PropertyPosition(e.0 + k)' 'panel::WideItemId(1)' "expected \`PropertyPosition\`, found \`WideItemId\`"
+mistaken plan_runs gain_map.rt 'first: c,' 'first: panel::ItemId(1),' "expected \`PropertyPosition\`, found \`ItemId\`"
 echo "types: a position is not taken for an id, nor an id for a position, nor an id over u32 for one over u16"

@@ -1,12 +1,12 @@
 #!/usr/bin/env bash
 # tests/vectors/upstream.txt holds upstream's files for a list of sheets: on each line a name, the sheet and the file in hexadecimal,
-# as `differential vectors` prints them from upstream's own writer. The program crate sheet_runs replays them inside the proofs' run,
+# as `differential vectors` prints them from upstream's own writer. The program crate program_sheets replays them inside the proofs' run,
 # with no Rust at hand: here it is seen that its sheets and what it must print are those of the list. With --store they are
-# made anew from the list, behind what else sheet_runs holds.
+# made anew from the list, behind what else program_sheets holds.
 set -euo pipefail
 cd "$(dirname "$0")/.."
 list=tests/vectors/upstream.txt
-runs=crates/sheet_runs
+runs=crates/program_sheets
 
 fail() { echo "vectors: $1" >&2; exit 1; }
 raw() { printf "$(sed 's/../\\x&/g' <<<"$1")"; }
@@ -36,4 +36,4 @@ for each in "$room"/data/*; do
     cmp -s "$each" "$runs/data/$(basename "$each")" || fail "$runs/data/$(basename "$each") is not the list's sheet"
 done
 tail -c "$(stat -c %s "$room/stdout")" "$runs/stdout" | cmp -s - "$room/stdout" || fail "$runs/stdout does not end in the list's files"
-echo "vectors: sheet_runs replays the $(wc -l <"$list") files of upstream's list"
+echo "vectors: program_sheets replays the $(wc -l <"$list") files of upstream's list"

@@ -40,7 +40,7 @@ const HELP: &str = "usage: differential [--seed N] [--long] [--huge]
   --long     draw 1,000,000 random panels instead of 100,000
   --huge     also write a file of 4,294,967,295 bytes (takes about 13 GiB of memory)
   vectors    print a fixed list of upstream's files: name, sheet and file in hexadecimal
-  stored     print what the program crate stored_files must write, from upstream's files";
+  stored     print what the program crate program_files must write, from upstream's files";
 
 struct Options {
     seed: u64,
@@ -108,8 +108,8 @@ fn sheets(run: &mut Run, seed: u64) {
     let accepted = seen.answers.get(&0).unwrap_or(&0);
     println!("sheets: {} in all; {accepted} accepted; refused: {}", seen.sheets, refused.join(", "));
     match seen.program {
-        Some(count) => println!("panel_sheet: {count} of them through the program"),
-        None => println!("panel_sheet: the program is not built, so it was left out"),
+        Some(count) => println!("program_panel: {count} of them through the program"),
+        None => println!("program_panel: the program is not built, so it was left out"),
     }
 }
 

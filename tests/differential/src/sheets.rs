@@ -100,7 +100,7 @@ fn damage(rng: &mut Rng, sheet: &mut Vec<u8>) {
 
 /// The program, where the proofs' run has built it.
 fn program() -> Option<PathBuf> {
-    let path = PathBuf::from(concat!(env!("CARGO_MANIFEST_DIR"), "/../../target/bin/panel_sheet"));
+    let path = PathBuf::from(concat!(env!("CARGO_MANIFEST_DIR"), "/../../target/bin/program_panel"));
     path.is_file().then_some(path)
 }
 
@@ -120,8 +120,10 @@ fn through_program(run: &mut Run, program: &PathBuf, sheets: &[Vec<u8>]) -> usiz
         let wanted = answer.map_or_else(|n| format!("refused {n}\n").into_bytes(), |_| file);
         match printed(program, sheet) {
             Ok(found) if found == wanted => {}
-            Ok(found) => run.fail("panel_sheet", &format!("prints {} bytes, not {}", found.len(), wanted.len()), sheet),
-            Err(e) => run.fail("panel_sheet", &e.to_string(), sheet),
+            Ok(found) => {
+                run.fail("program_panel", &format!("prints {} bytes, not {}", found.len(), wanted.len()), sheet)
+            }
+            Err(e) => run.fail("program_panel", &e.to_string(), sheet),
         }
     }
     chosen.len()

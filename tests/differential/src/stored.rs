@@ -1,4 +1,4 @@
-//! What the program crate stored_files must write, from upstream's writer: panel P with each value of each enum, by
+//! What the program crate program_files must write, from upstream's writer: panel P with each value of each enum, by
 //! upstream's own names and not the binding's; a panel with every part; and the tiles of both.
 
 use crate::tiles;
