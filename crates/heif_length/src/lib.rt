@@ -1,1 +1,1 @@
-// The length of a panel's file: of each box as a sum of numbers, of the whole as a sum of shares, and where the data begin in it.
+// The length of a panel's file as a sum of shares, one for each part that a panel may have. There is no code here.
