@@ -1,7 +1,7 @@
 #!/usr/bin/env bash
-# Every path and every name that README.md and docs/CLAIMS.md cite exists.
+# Every path and every name that README.md, docs/CLAIMS.md and docs/MAP.md cite exists.
 #
-# A path is every word with a slash, or that ends as a file's name does, in backticks or not. CLAIMS.md leaves out `crates/`, and an edit's
+# A path is every word with a slash, or that ends as a file's name does, in backticks or not. Those in docs/ leave out `crates/`, and an edit's
 # ending; a file's name without a folder is some crate's file. A name is what stands in backticks, or each word of it where it is a formula,
 # and is defined in the crates, the bindings or the tests: a function, type, law or record, or a crate. Where the name is given its crate
 # (`crate::name`) or its place in a folder (`name` (folder/file)), it is defined there. Blocks of code are not looked at; readme.sh tries them.
@@ -16,7 +16,7 @@ trap 'rm -rf "$room"' EXIT
 not_ours=(
     awxkee/hpvca ISO/IEC             # upstream, and those who publish the standards
     ../shared/docs/src               # where upstream's source lies
-    src/ specs/ proofs/              # folders that every crate has, and upstream
+    src/ specs/ proofs/ must-fail/   # folders that crates have, and upstream
     hello.c                          # the reader's own file
     requires ensures pub mut         # words of Rattle
     rt must-fail                     # a command of the kit
@@ -46,7 +46,7 @@ fault() { echo "cited: $1" >&2; faults=$((faults + 1)); }
 # path_of WORD: where a path that the document cites lies, if it is there
 path_of() {
     local each places=("$1")
-    [ "$document" = README.md ] || places+=("crates/$1" "crates/$1.edit")
+    [ "$document" = README.md ] || places+=("crates/$1" "crates/$1.edit" "docs/$1")
     for each in "${places[@]}"; do
         if [ -e "$each" ]; then echo "$each"; return; fi
     done
@@ -64,7 +64,7 @@ look() {
     fi
 }
 
-for document in README.md docs/CLAIMS.md; do
+for document in README.md docs/CLAIMS.md docs/MAP.md; do
     awk '/^```/ { on = !on; next } !on' "$document" >"$room/text"
 
     while read -r word; do
