@@ -1,4 +1,4 @@
--- 23008-12, 6.5.8: auxiliary type property.
+-- 23008-12, 6.5: auxiliary type property.
 use Prim.Native.Nat.{ℕ, _+_}
 use Prim.Native.String.{String}
 use Rattle.octets.specs.Numbers.{_‖_, be, text}

@@ -1,4 +1,4 @@
--- 14496-12, 12.1: content light level.
+-- The content light level property.
 use mathlib.Core.Bool.{cond}
 use mathlib.Core.Option.{Option, none, some}
 use mathlib.Core.List.{List}

@@ -1,4 +1,4 @@
--- 23008-12, 6.5.12: image mirroring property.
+-- 23008-12, 6.5: image mirroring property.
 use mathlib.Core.Bool.{Bool, cond}
 use mathlib.Core.Option.{Option, none, some}
 use mathlib.Core.List.{List}

@@ -1,4 +1,4 @@
--- 23008-12, 6.5.10: image rotation property.
+-- 23008-12, 6.5: image rotation property.
 use mathlib.Core.Bool.{cond}
 use mathlib.Core.Option.{Option, none, some}
 use mathlib.Core.List.{List}

@@ -1,4 +1,4 @@
--- 23008-12, 6.5.3: image spatial extents property.
+-- 23008-12, 6.5: image spatial extents property.
 use mathlib.Core.Bool.{cond}
 use Prim.Native.Nat.{ℕ, _%_}
 use lib.Dec.{eqb}

@@ -1,4 +1,4 @@
--- 23008-12, 6.5.6: pixel information property.
+-- 23008-12, 6.5: pixel information property.
 use Prim.Native.Nat.{ℕ, _+_}
 use lib.ListN.{replicate}
 use Rattle.octets.specs.Numbers.{_‖_, be}

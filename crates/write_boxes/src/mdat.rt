@@ -1,4 +1,4 @@
-// The gain map's payloads in mdat.
+// mdat: the payloads, one after the other.
 ghost use mathlib.Core.Path.{_≡_};
 ghost use mathlib.Core.List.{[], _∷_, flatten};
 ghost use Prim.Native.Nat.{_+_, _≤_, _<_};
