@@ -3,7 +3,7 @@ use mathlib.Core.Path.{_≡_, refl}
 use mathlib.Core.List.{List, [], _∷_}
 use Prim.Native.Nat.{ℕ, _+_, _*_}
 use Prim.Native.String.{String}
-use native.Mathlib.Nat.{suc-mul}
+use native.Mathlib.Nat.{mul-comm}
 use native.Mathlib.Omega.{arith}
 use lib.ListN.{length, length-append}
 use Rattle.octets.specs.Numbers.{be}
@@ -20,7 +20,7 @@ use Rattle.heif.proofs.Items.{length-ids-from, boxes-given}
 -- from one item to k others, the whole box
 length-reference : (f : Form) (type : String) (from : ℕ) (to : List ℕ) {k : ℕ} → length to ≡ k → 8 + length (reference f type from to .body) ≡ reference-size f k
 length-reference f type from to {k} h =
-    simp (length-append, length-be, length-flatMap (be (f .id)) (f .id) (length-be (f .id)), h) (omega (arith, suc-mul k (f .id)))
+    simp (length-append, length-be, length-flatMap (be (f .id)) (f .id) (length-be (f .id)), h) (omega (arith, mul-comm k (f .id)))
 
 length-boxes-gain-references : (f : Form) (s : Shape) → length (boxes (gain-references f s)) ≡ gain-references-size f s
 length-boxes-gain-references f s =

@@ -37,7 +37,7 @@ iref f s = full "iref" (f .step) 0 (boxes (references f s))
 
 -- from one item to k others, the whole box
 abbrev pub reference-size : Form → ℕ → ℕ
-reference-size f k = 10 + (1 + k) * f .id
+reference-size f k = 10 + f .id + f .id * k
 
 -- of the gain image and its XMP, and of the tone map
 abbrev pub gain-references-size : Form → Shape → ℕ

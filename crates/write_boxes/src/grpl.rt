@@ -4,7 +4,7 @@ ghost use Prim.Native.Nat.{_+_, _≤_, _<_};
 ghost use lib.ListN.{length};
 ghost use Rattle.octets.specs.Boxes.{box, boxes};
 ghost use Rattle.octets.specs.Stores.{Boxed};
-ghost use Rattle.heif.specs.Grpl.{altr, grpl, grpl-size};
+ghost use Rattle.heif.specs.Grpl.{altr, grpl, altr-size, grpl-size};
 ghost use Rattle.plan_items.specs.Items.{Shaped};
 use octets::w32;
 use octets::write_box;
@@ -16,9 +16,9 @@ use plan_items::ids::tmap_id;
 
 // altr: a tone map or else a grid is shown; the group's id is the first that no item has.
 fn write_altr(out: &mut [u8], at: usize, tone: WideItemId, grid: WideItemId) -> usize
-    requires { ⌜ at + 28 ≤ length (now out) ⌝ }
+    requires { ⌜ at + altr-size ≤ length (now out) ⌝ }
     requires { ⌜ tone .0 < 4294967295 ⌝ }
-    ensures { λ r. ⌜ Boxed (now (out .entry)) at 28 (altr (tone .0) (grid .0) ∷ []) (now (out .exit)) r ⌝ }
+    ensures { λ r. ⌜ Boxed (now (out .entry)) at altr-size (altr (tone .0) (grid .0) ∷ []) (now (out .exit)) r ⌝ }
 {
     let a = write_fullbox(out, at, 28, b"altr", 0, 0);
     let b = w32(out, a, tone.0 + 1);
@@ -29,9 +29,9 @@ fn write_altr(out: &mut [u8], at: usize, tone: WideItemId, grid: WideItemId) -> 
 
 // grpl: one group.
 pub fn write_grpl(out: &mut [u8], at: usize, tone: WideItemId, grid: WideItemId) -> usize
-    requires { ⌜ at + 36 ≤ length (now out) ⌝ }
+    requires { ⌜ at + (8 + altr-size) ≤ length (now out) ⌝ }
     requires { ⌜ tone .0 < 4294967295 ⌝ }
-    ensures { λ r. ⌜ Boxed (now (out .entry)) at 36 (box "grpl" (boxes (altr (tone .0) (grid .0) ∷ [])) ∷ []) (now (out .exit)) r ⌝ }
+    ensures { λ r. ⌜ Boxed (now (out .entry)) at (8 + altr-size) (box "grpl" (boxes (altr (tone .0) (grid .0) ∷ [])) ∷ []) (now (out .exit)) r ⌝ }
 {
     let a = write_box(out, at, 36, b"grpl");
     write_altr(out, a, tone, grid)

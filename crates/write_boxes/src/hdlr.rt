@@ -3,7 +3,7 @@ ghost use mathlib.Core.List.{[], _∷_};
 ghost use Prim.Native.Nat.{_+_, _≤_};
 ghost use lib.ListN.{length};
 ghost use Rattle.octets.specs.Stores.{Boxed};
-ghost use Rattle.heif.specs.Hdlr.{hdlr};
+ghost use Rattle.heif.specs.Hdlr.{hdlr, hdlr-size};
 use octets::put;
 use octets::w8;
 use octets::w32;
@@ -11,8 +11,8 @@ use octets::write_fullbox;
 
 // hdlr: the handler of pictures.
 pub fn write_hdlr(out: &mut [u8], at: usize) -> usize
-    requires { ⌜ at + 33 ≤ length (now out) ⌝ }
-    ensures { λ r. ⌜ Boxed (now (out .entry)) at 33 (hdlr ∷ []) (now (out .exit)) r ⌝ }
+    requires { ⌜ at + hdlr-size ≤ length (now out) ⌝ }
+    ensures { λ r. ⌜ Boxed (now (out .entry)) at hdlr-size (hdlr ∷ []) (now (out .exit)) r ⌝ }
 {
     let a = write_fullbox(out, at, 33, b"hdlr", 0, 0);
     let b = w32(out, a, 0);

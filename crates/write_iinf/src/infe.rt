@@ -8,7 +8,7 @@ ghost use Rattle.octets.specs.Boxes.{full};
 ghost use Rattle.octets.specs.Stores.{Wrote, Boxed};
 ghost use Rattle.panel.specs.Parts.{given};
 ghost use Rattle.panel.specs.Form.{form-of};
-ghost use Rattle.heif.specs.Iinf.{tile-infes};
+ghost use Rattle.heif.specs.Iinf.{tile-infes, infe-size};
 use octets::put;
 use octets::size_of;
 use octets::w8;
@@ -42,9 +42,9 @@ pub fn write_infe(
     hidden: bool,
     content_type: &[u8],
 ) -> usize
-    requires { ⌜ at + (19 + form-of form .id + length (now «content_type»)) ≤ length (now out) ⌝ }
+    requires { ⌜ at + (infe-size (form-of form) + length (now «content_type»)) ≤ length (now out) ⌝ }
     requires { ⌜ 23 + length (now «content_type») < 4294967296 ⌝ }
-    ensures { λ r. ⌜ Boxed (now (out .entry)) at (19 + form-of form .id + length (now («content_type» .entry))) (full "infe" (2 + form-of form .step) (cond hidden 1 0) (be (form-of form .id) (id .0) ‖ be 2 0 ‖ now (kind .entry) ‖ be 1 0 ‖ now («content_type» .entry)) ∷ []) (now (out .exit)) r ⌝ }
+    ensures { λ r. ⌜ Boxed (now (out .entry)) at (infe-size (form-of form) + length (now («content_type» .entry))) (full "infe" (2 + form-of form .step) (cond hidden 1 0) (be (form-of form .id) (id .0) ‖ be 2 0 ‖ now (kind .entry) ‖ be 1 0 ‖ now («content_type» .entry)) ∷ []) (now (out .exit)) r ⌝ }
 {
     let a = write_item_box(
         out,
@@ -70,9 +70,9 @@ pub fn write_given_infe(
     hidden: bool,
     content_type: &[u8],
 ) -> usize
-    requires { ⌜ at + cond present (19 + form-of form .id + length (now «content_type»)) 0 ≤ length (now out) ⌝ }
+    requires { ⌜ at + cond present (infe-size (form-of form) + length (now «content_type»)) 0 ≤ length (now out) ⌝ }
     requires { ⌜ 23 + length (now «content_type») < 4294967296 ⌝ }
-    ensures { λ r. ⌜ Boxed (now (out .entry)) at (cond present (19 + form-of form .id + length (now («content_type» .entry))) 0) (given present (full "infe" (2 + form-of form .step) (cond hidden 1 0) (be (form-of form .id) (id .0) ‖ be 2 0 ‖ now (kind .entry) ‖ be 1 0 ‖ now («content_type» .entry)) ∷ [])) (now (out .exit)) r ⌝ }
+    ensures { λ r. ⌜ Boxed (now (out .entry)) at (cond present (infe-size (form-of form) + length (now («content_type» .entry))) 0) (given present (full "infe" (2 + form-of form .step) (cond hidden 1 0) (be (form-of form .id) (id .0) ‖ be 2 0 ‖ now (kind .entry) ‖ be 1 0 ‖ now («content_type» .entry)) ∷ [])) (now (out .exit)) r ⌝ }
 {
     if present {
         return write_infe(out, at, form, id, kind, hidden, content_type);
@@ -88,9 +88,9 @@ pub fn write_tile_infes(
     first: WideItemId,
     n: u32,
 ) -> usize
-    requires { ⌜ at + (19 + form-of form .id) * n ≤ length (now out) ⌝ }
+    requires { ⌜ at + infe-size (form-of form) * n ≤ length (now out) ⌝ }
     requires { ⌜ first .0 + n < 4294967296 ⌝ }
-    ensures { λ r. ⌜ Boxed (now (out .entry)) at ((19 + form-of form .id) * n) (tile-infes (form-of form) (first .0) n) (now (out .exit)) r ⌝ }
+    ensures { λ r. ⌜ Boxed (now (out .entry)) at (infe-size (form-of form) * n) (tile-infes (form-of form) (first .0) n) (now (out .exit)) r ⌝ }
 {
     let mut left = n;
     let mut a = at;

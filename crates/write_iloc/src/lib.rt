@@ -12,7 +12,7 @@ ghost use Rattle.octets.specs.Numbers.{_‖_, be, text, total};
 ghost use Rattle.octets.specs.Stores.{Wrote, Boxed};
 ghost use Rattle.panel.specs.Form.{form-of};
 ghost use Rattle.heif.specs.Items.{last-id, colour-grid, alpha-tile, alpha-grid, exif-id};
-ghost use Rattle.heif.specs.Iloc.{entry, located, iloc, iloc-size};
+ghost use Rattle.heif.specs.Iloc.{entry, located, iloc, iloc-size, entry-size};
 ghost use Rattle.plan_items.specs.Items.{Shaped};
 ghost use Rattle.write_iloc.specs.Spans.{spans, location};
 ghost use Rattle.write_iloc.specs.Locations.{other-sizes, placed};
@@ -41,11 +41,11 @@ fn write_color_locations(
     lengths: &[u32],
     descriptor: u32,
 ) -> usize
-    requires { ⌜ at + ((14 + form-of form .id) * length (now lengths) + (14 + form-of form .id)) ≤ length (now out) ⌝ }
+    requires { ⌜ at + (entry-size (form-of form) * length (now lengths) + (entry-size (form-of form))) ≤ length (now out) ⌝ }
     requires { ⌜ Shaped s ⌝ }
     requires { ⌜ length (now lengths) ≡ s .tiles ⌝ }
     requires { ⌜ offset + total (now lengths) < 4294967296 ⌝ }
-    ensures { λ r. ⌜ Wrote (now (out .entry)) at ((14 + form-of form .id) * length (now (lengths .entry)) + (14 + form-of form .id)) (flatMap (entry (form-of form)) (located 1 0 (spans offset (now (lengths .entry)))) ‖ entry (form-of form) (location (colour-grid s) 1 0 descriptor)) (now (out .exit)) r ⌝ }
+    ensures { λ r. ⌜ Wrote (now (out .entry)) at (entry-size (form-of form) * length (now (lengths .entry)) + (entry-size (form-of form))) (flatMap (entry (form-of form)) (located 1 0 (spans offset (now (lengths .entry)))) ‖ entry (form-of form) (location (colour-grid s) 1 0 descriptor)) (now (out .exit)) r ⌝ }
 {
     let grid = color_grid_id(s);
     let a = write_tile_locations(out, at, form, WideItemId(1), offset, lengths);
@@ -62,11 +62,11 @@ fn write_alpha_locations(
     lengths: &[u32],
     descriptor: u32,
 ) -> usize
-    requires { ⌜ at + ((14 + form-of form .id) * length (now lengths) + (14 + form-of form .id)) ≤ length (now out) ⌝ }
+    requires { ⌜ at + (entry-size (form-of form) * length (now lengths) + (entry-size (form-of form))) ≤ length (now out) ⌝ }
     requires { ⌜ Shaped s ⌝ }
     requires { ⌜ length (now lengths) ≡ s .tiles ⌝ }
     requires { ⌜ offset + total (now lengths) < 4294967296 ⌝ }
-    ensures { λ r. ⌜ Wrote (now (out .entry)) at ((14 + form-of form .id) * length (now (lengths .entry)) + (14 + form-of form .id)) (flatMap (entry (form-of form)) (located (alpha-tile s) 0 (spans offset (now (lengths .entry)))) ‖ entry (form-of form) (location (alpha-grid s) 1 descriptor descriptor)) (now (out .exit)) r ⌝ }
+    ensures { λ r. ⌜ Wrote (now (out .entry)) at (entry-size (form-of form) * length (now (lengths .entry)) + (entry-size (form-of form))) (flatMap (entry (form-of form)) (located (alpha-tile s) 0 (spans offset (now (lengths .entry)))) ‖ entry (form-of form) (location (alpha-grid s) 1 descriptor descriptor)) (now (out .exit)) r ⌝ }
 {
     let first = alpha_tile_base(s);
     let grid = alpha_grid_id(s);
@@ -84,11 +84,11 @@ fn write_exif_locations(
     exif: u32,
     gain: PayloadLengths,
 ) -> usize
-    requires { ⌜ at + ((14 + form-of form .id) + (cond (s .gain) (28 + 2 * form-of form .id) 0 + cond (s .tone) (14 + form-of form .id) 0)) ≤ length (now out) ⌝ }
+    requires { ⌜ at + ((entry-size (form-of form)) + (cond (s .gain) (2 * entry-size (form-of form)) 0 + cond (s .tone) (entry-size (form-of form)) 0)) ≤ length (now out) ⌝ }
     requires { ⌜ Shaped s ⌝ }
     requires { ⌜ offset + (exif + (gain .sample + gain .xmp)) < 4294967296 ⌝ }
     requires { ⌜ s .exif ≡ true ⌝ }
-    ensures { λ r. ⌜ Wrote (now (out .entry)) at ((14 + form-of form .id) + (cond (s .gain) (28 + 2 * form-of form .id) 0 + cond (s .tone) (14 + form-of form .id) 0)) (flatMap (entry (form-of form)) (located (exif-id s) 0 (spans offset (other-sizes s exif gain)))) (now (out .exit)) r ⌝ }
+    ensures { λ r. ⌜ Wrote (now (out .entry)) at ((entry-size (form-of form)) + (cond (s .gain) (2 * entry-size (form-of form)) 0 + cond (s .tone) (entry-size (form-of form)) 0)) (flatMap (entry (form-of form)) (located (exif-id s) 0 (spans offset (other-sizes s exif gain)))) (now (out .exit)) r ⌝ }
 {
     let id = exif_id(s);
     let a = write_location(out, at, form, id, 0, offset, exif);
@@ -105,10 +105,10 @@ fn write_other_locations(
     exif: u32,
     gain: PayloadLengths,
 ) -> usize
-    requires { ⌜ at + (cond (s .exif) (14 + form-of form .id) 0 + (cond (s .gain) (28 + 2 * form-of form .id) 0 + cond (s .tone) (14 + form-of form .id) 0)) ≤ length (now out) ⌝ }
+    requires { ⌜ at + (cond (s .exif) (entry-size (form-of form)) 0 + (cond (s .gain) (2 * entry-size (form-of form)) 0 + cond (s .tone) (entry-size (form-of form)) 0)) ≤ length (now out) ⌝ }
     requires { ⌜ Shaped s ⌝ }
     requires { ⌜ offset + (exif + (gain .sample + gain .xmp)) < 4294967296 ⌝ }
-    ensures { λ r. ⌜ Wrote (now (out .entry)) at (cond (s .exif) (14 + form-of form .id) 0 + (cond (s .gain) (28 + 2 * form-of form .id) 0 + cond (s .tone) (14 + form-of form .id) 0)) (flatMap (entry (form-of form)) (located (exif-id s) 0 (spans offset (other-sizes s exif gain)))) (now (out .exit)) r ⌝ }
+    ensures { λ r. ⌜ Wrote (now (out .entry)) at (cond (s .exif) (entry-size (form-of form)) 0 + (cond (s .gain) (2 * entry-size (form-of form)) 0 + cond (s .tone) (entry-size (form-of form)) 0)) (flatMap (entry (form-of form)) (located (exif-id s) 0 (spans offset (other-sizes s exif gain)))) (now (out .exit)) r ⌝ }
 {
     if s.exif {
         return write_exif_locations(out, at, form, s, offset, exif, gain);

@@ -5,7 +5,7 @@ ghost use lib.ListN.{length};
 ghost use Rattle.octets.specs.Numbers.{total};
 ghost use Rattle.octets.specs.Stores.{Wrote};
 ghost use Rattle.panel.specs.Form.{ordinary, form-of};
-ghost use Rattle.heif.specs.Iloc.{entry, located};
+ghost use Rattle.heif.specs.Iloc.{entry, located, entry-size};
 ghost use Rattle.write_iloc.specs.Spans.{location, spans};
 use octets::w16;
 use octets::w32;
@@ -45,8 +45,8 @@ pub fn write_location(
     offset: u32,
     size: u32,
 ) -> usize
-    requires { ⌜ at + (14 + form-of form .id) ≤ length (now out) ⌝ }
-    ensures { λ r. ⌜ Wrote (now (out .entry)) at (14 + form-of form .id) (entry (form-of form) (location (id .0) method offset size)) (now (out .exit)) r ⌝ }
+    requires { ⌜ at + entry-size (form-of form) ≤ length (now out) ⌝ }
+    ensures { λ r. ⌜ Wrote (now (out .entry)) at (entry-size (form-of form)) (entry (form-of form) (location (id .0) method offset size)) (now (out .exit)) r ⌝ }
 {
     match form {
         FileForm::Ordinary => {
@@ -64,10 +64,10 @@ pub fn write_tile_locations(
     offset: u32,
     lengths: &[u32],
 ) -> usize
-    requires { ⌜ at + (14 + form-of form .id) * length (now lengths) ≤ length (now out) ⌝ }
+    requires { ⌜ at + entry-size (form-of form) * length (now lengths) ≤ length (now out) ⌝ }
     requires { ⌜ first .0 + length (now lengths) < 4294967296 ⌝ }
     requires { ⌜ offset + total (now lengths) < 4294967296 ⌝ }
-    ensures { λ r. ⌜ Wrote (now (out .entry)) at ((14 + form-of form .id) * length (now (lengths .entry))) (flatMap (entry (form-of form)) (located (first .0) 0 (spans offset (now (lengths .entry))))) (now (out .exit)) r ⌝ }
+    ensures { λ r. ⌜ Wrote (now (out .entry)) at (entry-size (form-of form) * length (now (lengths .entry))) (flatMap (entry (form-of form)) (located (first .0) 0 (spans offset (now (lengths .entry))))) (now (out .exit)) r ⌝ }
 {
     let mut i = 0;
     let mut a = at;

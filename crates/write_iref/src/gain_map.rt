@@ -7,7 +7,7 @@ ghost use Rattle.octets.specs.Stores.{Boxed};
 ghost use Rattle.panel.specs.Parts.{given};
 ghost use Rattle.panel.specs.Form.{form-of};
 ghost use Rattle.heif.specs.Items.{gain-id, colour-grid};
-ghost use Rattle.heif.specs.Iref.{reference, gain-references};
+ghost use Rattle.heif.specs.Iref.{reference, gain-references, reference-size, gain-references-size};
 ghost use Rattle.plan_items.specs.Items.{Shaped};
 use crate::reference::write_dimg_pair;
 use crate::reference::write_ref;
@@ -20,9 +20,9 @@ use plan_items::ids::xmp_id;
 
 // The gain image is auxiliary to the colour grid, and its XMP describes it.
 fn write_image_refs(out: &mut [u8], at: usize, form: FileForm, s: Shape) -> usize
-    requires { ⌜ at + cond (s .gain) (20 + 4 * form-of form .id) 0 ≤ length (now out) ⌝ }
+    requires { ⌜ at + cond (s .gain) (2 * reference-size (form-of form) 1) 0 ≤ length (now out) ⌝ }
     requires { ⌜ Shaped s ⌝ }
-    ensures { λ r. ⌜ Boxed (now (out .entry)) at (cond (s .gain) (20 + 4 * form-of form .id) 0) (given (s .gain) (reference (form-of form) "auxl" (gain-id s) (colour-grid s ∷ []) ∷ reference (form-of form) "cdsc" (gain-id s + 1) (gain-id s ∷ []) ∷ [])) (now (out .exit)) r ⌝ }
+    ensures { λ r. ⌜ Boxed (now (out .entry)) at (cond (s .gain) (2 * reference-size (form-of form) 1) 0) (given (s .gain) (reference (form-of form) "auxl" (gain-id s) (colour-grid s ∷ []) ∷ reference (form-of form) "cdsc" (gain-id s + 1) (gain-id s ∷ []) ∷ [])) (now (out .exit)) r ⌝ }
 {
     if s.gain {
         let image = gain_id(s);
@@ -36,9 +36,9 @@ fn write_image_refs(out: &mut [u8], at: usize, form: FileForm, s: Shape) -> usiz
 
 // The tone map derives from the colour grid and the gain image.
 fn write_tone_ref(out: &mut [u8], at: usize, form: FileForm, s: Shape) -> usize
-    requires { ⌜ at + cond (s .tone) (10 + 3 * form-of form .id) 0 ≤ length (now out) ⌝ }
+    requires { ⌜ at + cond (s .tone) (reference-size (form-of form) 2) 0 ≤ length (now out) ⌝ }
     requires { ⌜ Shaped s ⌝ }
-    ensures { λ r. ⌜ Boxed (now (out .entry)) at (cond (s .tone) (10 + 3 * form-of form .id) 0) (given (s .tone) (reference (form-of form) "dimg" (gain-id s + 2) (colour-grid s ∷ gain-id s ∷ []) ∷ [])) (now (out .exit)) r ⌝ }
+    ensures { λ r. ⌜ Boxed (now (out .entry)) at (cond (s .tone) (reference-size (form-of form) 2) 0) (given (s .tone) (reference (form-of form) "dimg" (gain-id s + 2) (colour-grid s ∷ gain-id s ∷ []) ∷ [])) (now (out .exit)) r ⌝ }
 {
     if s.tone {
         let tone = tmap_id(s);
@@ -51,9 +51,9 @@ fn write_tone_ref(out: &mut [u8], at: usize, form: FileForm, s: Shape) -> usize
 
 // The gain map's references.
 pub fn write_iref(out: &mut [u8], at: usize, form: FileForm, s: Shape) -> usize
-    requires { ⌜ at + (cond (s .gain) (20 + 4 * form-of form .id) 0 + cond (s .tone) (10 + 3 * form-of form .id) 0) ≤ length (now out) ⌝ }
+    requires { ⌜ at + gain-references-size (form-of form) s ≤ length (now out) ⌝ }
     requires { ⌜ Shaped s ⌝ }
-    ensures { λ r. ⌜ Boxed (now (out .entry)) at (cond (s .gain) (20 + 4 * form-of form .id) 0 + cond (s .tone) (10 + 3 * form-of form .id) 0) (gain-references (form-of form) s) (now (out .exit)) r ⌝ }
+    ensures { λ r. ⌜ Boxed (now (out .entry)) at (gain-references-size (form-of form) s) (gain-references (form-of form) s) (now (out .exit)) r ⌝ }
 {
     let a = write_image_refs(out, at, form, s);
     write_tone_ref(out, a, form, s)

@@ -12,7 +12,7 @@ ghost use Rattle.octets.specs.Stores.{Boxed};
 ghost use Rattle.panel.specs.Parts.{given};
 ghost use Rattle.panel.specs.Form.{form-of};
 ghost use Rattle.heif.specs.Items.{ids-from, colour-grid, alpha-tile, alpha-grid, exif-id};
-ghost use Rattle.heif.specs.Iref.{reference, iref, iref-size};
+ghost use Rattle.heif.specs.Iref.{reference, iref, iref-size, reference-size};
 ghost use Rattle.plan_items.specs.Items.{Shaped};
 use crate::reference::write_dimg_tiles;
 use crate::reference::write_ref;
@@ -27,9 +27,9 @@ use write_ids::form::write_item_box;
 
 // The colour grid derives from its tiles.
 fn write_color_dimg(out: &mut [u8], at: usize, form: FileForm, s: Shape) -> usize
-    requires { ⌜ at + (10 + form-of form .id + form-of form .id * s .tiles) ≤ length (now out) ⌝ }
+    requires { ⌜ at + reference-size (form-of form) (s .tiles) ≤ length (now out) ⌝ }
     requires { ⌜ Shaped s ⌝ }
-    ensures { λ r. ⌜ Boxed (now (out .entry)) at (10 + form-of form .id + form-of form .id * s .tiles) (reference (form-of form) "dimg" (colour-grid s) (ids-from 1 (s .tiles)) ∷ []) (now (out .exit)) r ⌝ }
+    ensures { λ r. ⌜ Boxed (now (out .entry)) at (reference-size (form-of form) (s .tiles)) (reference (form-of form) "dimg" (colour-grid s) (ids-from 1 (s .tiles)) ∷ []) (now (out .exit)) r ⌝ }
 {
     let grid = color_grid_id(s);
     write_dimg_tiles(out, at, form, grid, WideItemId(1), s.tiles)
@@ -37,9 +37,9 @@ fn write_color_dimg(out: &mut [u8], at: usize, form: FileForm, s: Shape) -> usiz
 
 // The alpha grid derives from its tiles.
 fn write_alpha_dimg(out: &mut [u8], at: usize, form: FileForm, s: Shape) -> usize
-    requires { ⌜ at + (10 + form-of form .id + form-of form .id * s .tiles) ≤ length (now out) ⌝ }
+    requires { ⌜ at + reference-size (form-of form) (s .tiles) ≤ length (now out) ⌝ }
     requires { ⌜ Shaped s ⌝ }
-    ensures { λ r. ⌜ Boxed (now (out .entry)) at (10 + form-of form .id + form-of form .id * s .tiles) (reference (form-of form) "dimg" (alpha-grid s) (ids-from (alpha-tile s) (s .tiles)) ∷ []) (now (out .exit)) r ⌝ }
+    ensures { λ r. ⌜ Boxed (now (out .entry)) at (reference-size (form-of form) (s .tiles)) (reference (form-of form) "dimg" (alpha-grid s) (ids-from (alpha-tile s) (s .tiles)) ∷ []) (now (out .exit)) r ⌝ }
 {
     let grid = alpha_grid_id(s);
     let first = alpha_tile_base(s);
@@ -48,9 +48,9 @@ fn write_alpha_dimg(out: &mut [u8], at: usize, form: FileForm, s: Shape) -> usiz
 
 // The alpha grid is auxiliary to the colour grid.
 fn write_alpha_auxl(out: &mut [u8], at: usize, form: FileForm, s: Shape) -> usize
-    requires { ⌜ at + (10 + 2 * form-of form .id) ≤ length (now out) ⌝ }
+    requires { ⌜ at + reference-size (form-of form) 1 ≤ length (now out) ⌝ }
     requires { ⌜ Shaped s ⌝ }
-    ensures { λ r. ⌜ Boxed (now (out .entry)) at (10 + 2 * form-of form .id) (reference (form-of form) "auxl" (alpha-grid s) (colour-grid s ∷ []) ∷ []) (now (out .exit)) r ⌝ }
+    ensures { λ r. ⌜ Boxed (now (out .entry)) at (reference-size (form-of form) 1) (reference (form-of form) "auxl" (alpha-grid s) (colour-grid s ∷ []) ∷ []) (now (out .exit)) r ⌝ }
 {
     let alpha = alpha_grid_id(s);
     let color = color_grid_id(s);
@@ -59,9 +59,9 @@ fn write_alpha_auxl(out: &mut [u8], at: usize, form: FileForm, s: Shape) -> usiz
 
 // The Exif describes the colour grid.
 fn write_exif_ref(out: &mut [u8], at: usize, form: FileForm, s: Shape) -> usize
-    requires { ⌜ at + cond (s .exif) (10 + 2 * form-of form .id) 0 ≤ length (now out) ⌝ }
+    requires { ⌜ at + cond (s .exif) (reference-size (form-of form) 1) 0 ≤ length (now out) ⌝ }
     requires { ⌜ Shaped s ⌝ }
-    ensures { λ r. ⌜ Boxed (now (out .entry)) at (cond (s .exif) (10 + 2 * form-of form .id) 0) (given (s .exif) (reference (form-of form) "cdsc" (exif-id s) (colour-grid s ∷ []) ∷ [])) (now (out .exit)) r ⌝ }
+    ensures { λ r. ⌜ Boxed (now (out .entry)) at (cond (s .exif) (reference-size (form-of form) 1) 0) (given (s .exif) (reference (form-of form) "cdsc" (exif-id s) (colour-grid s ∷ []) ∷ [])) (now (out .exit)) r ⌝ }
 {
     if s.exif {
         let id = exif_id(s);

@@ -7,7 +7,7 @@ ghost use Rattle.octets.specs.Boxes.{box-of};
 ghost use Rattle.octets.specs.Stores.{Boxed};
 ghost use Rattle.panel.specs.Form.{form-of};
 ghost use Rattle.heif.specs.Items.{ids-from};
-ghost use Rattle.heif.specs.Iref.{reference};
+ghost use Rattle.heif.specs.Iref.{reference, reference-size};
 use octets::w16;
 use octets::write_box;
 use panel::FileForm;
@@ -25,8 +25,8 @@ pub fn write_ref(
     from: WideItemId,
     to: WideItemId,
 ) -> usize
-    requires { ⌜ at + (10 + 2 * form-of form .id) ≤ length (now out) ⌝ }
-    ensures { λ r. ⌜ Boxed (now (out .entry)) at (10 + 2 * form-of form .id) (box-of (now (kind .entry)) (be (form-of form .id) (from .0) ‖ be 2 1 ‖ flatMap (be (form-of form .id)) (to .0 ∷ [])) ∷ []) (now (out .exit)) r ⌝ }
+    requires { ⌜ at + reference-size (form-of form) 1 ≤ length (now out) ⌝ }
+    ensures { λ r. ⌜ Boxed (now (out .entry)) at (reference-size (form-of form) 1) (box-of (now (kind .entry)) (be (form-of form .id) (from .0) ‖ be 2 1 ‖ flatMap (be (form-of form .id)) (to .0 ∷ [])) ∷ []) (now (out .exit)) r ⌝ }
 {
     let a = write_box(out, at, 10 + ids_bytes(form, 2), kind);
     let b = write_id(out, a, form, from);
@@ -43,8 +43,8 @@ pub fn write_dimg_pair(
     one: WideItemId,
     two: WideItemId,
 ) -> usize
-    requires { ⌜ at + (10 + 3 * form-of form .id) ≤ length (now out) ⌝ }
-    ensures { λ r. ⌜ Boxed (now (out .entry)) at (10 + 3 * form-of form .id) (reference (form-of form) "dimg" (from .0) (one .0 ∷ two .0 ∷ []) ∷ []) (now (out .exit)) r ⌝ }
+    requires { ⌜ at + reference-size (form-of form) 2 ≤ length (now out) ⌝ }
+    ensures { λ r. ⌜ Boxed (now (out .entry)) at (reference-size (form-of form) 2) (reference (form-of form) "dimg" (from .0) (one .0 ∷ two .0 ∷ []) ∷ []) (now (out .exit)) r ⌝ }
 {
     let a = write_box(out, at, 10 + ids_bytes(form, 3), b"dimg");
     let b = write_id(out, a, form, from);
@@ -62,10 +62,10 @@ pub fn write_dimg_tiles(
     first: WideItemId,
     n: u32,
 ) -> usize
-    requires { ⌜ at + (10 + form-of form .id + form-of form .id * n) ≤ length (now out) ⌝ }
+    requires { ⌜ at + reference-size (form-of form) n ≤ length (now out) ⌝ }
     requires { ⌜ n ≤ 65535 ⌝ }
     requires { ⌜ first .0 + n < 4294967296 ⌝ }
-    ensures { λ r. ⌜ Boxed (now (out .entry)) at (10 + form-of form .id + form-of form .id * n) (reference (form-of form) "dimg" (from .0) (ids-from (first .0) n) ∷ []) (now (out .exit)) r ⌝ }
+    ensures { λ r. ⌜ Boxed (now (out .entry)) at (reference-size (form-of form) n) (reference (form-of form) "dimg" (from .0) (ids-from (first .0) n) ∷ []) (now (out .exit)) r ⌝ }
 {
     let a = write_box(out, at, 10 + ids_bytes(form, n + 1), b"dimg");
     let b = write_id(out, a, form, from);

@@ -14,8 +14,8 @@ use Rattle.heif.specs.Iinf.{iinf, iinf-size}
 use Rattle.heif.specs.Iref.{iref, iref-size}
 use Rattle.heif.specs.Ipco.{ipco, ipco-size}
 use Rattle.heif.specs.Ipma.{associations, ipma}
-use Rattle.heif.specs.Hdlr.{hdlr}
-use Rattle.heif.specs.Pitm.{pitm}
+use Rattle.heif.specs.Hdlr.{hdlr, hdlr-size}
+use Rattle.heif.specs.Pitm.{pitm, pitm-size}
 use Rattle.heif.specs.Grpl.{grpl, grpl-size}
 use Rattle.heif.specs.Idat.{idat, idat-size}
 use Rattle.plan_items.specs.Items.{Shaped}
@@ -28,7 +28,7 @@ abbrev pub item-boxes : Form → Shape → List Location → List Box
 item-boxes f s l = hdlr ∷ pitm f s ∷ iloc f l ∷ iinf f s ∷ iref f s ∷ []
 
 abbrev pub item-boxes-size : Form → Shape → ℕ
-item-boxes-size f s = 33 + (12 + f .id + ((8 + iloc-size f s) + ((8 + iinf-size f s) + (8 + iref-size f s))))
+item-boxes-size f s = hdlr-size + ((8 + pitm-size f) + ((8 + iloc-size f s) + ((8 + iinf-size f s) + (8 + iref-size f s))))
 
 -- the sizes that a layout has for them
 pub record Item-sizes (f : Form) (y : Layout) : Type 0 where

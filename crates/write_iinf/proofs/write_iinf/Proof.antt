@@ -11,22 +11,22 @@ use Rattle.octets.proofs.Stores.{_▹_, kept, told, retold, _▸_}
 use Rattle.panel.specs.Form.{Form, form-of}
 use Rattle.panel.specs.declared.Shape.{Shape}
 use Rattle.heif.specs.Items.{colour-grid, alpha-grid, alpha-tile}
-use Rattle.heif.specs.Iinf.{infe, tile-infes, iinf-size}
+use Rattle.heif.specs.Iinf.{infe, tile-infes, iinf-size, infe-size}
 use Rattle.heif.proofs.Iinf.{length-infes}
 use Rattle.write_ids.proofs.Forms.{raised}
 use Rattle.write_iinf.proofs.write_iinf.Statement.{statement}
 use Rattle.write_iinf.proofs.write_iinf.Tie as tie
 
 size-of : (f : Form) (s : Shape)
-    → 12 + (f .count + (((19 + f .id) * s .tiles + (19 + f .id)) + (((19 + f .id) * s .tiles + (19 + f .id)) + (cond (s .exif) (19 + f .id + 0) 0 + (cond (s .gain) (58 + 2 * f .id) 0 + cond (s .tone) (19 + f .id) 0))))) ≡ 8 + iinf-size f s
+    → 12 + (f .count + ((infe-size f * s .tiles + (infe-size f)) + ((infe-size f * s .tiles + (infe-size f)) + (cond (s .exif) (infe-size f + 0) 0 + (cond (s .gain) (2 * infe-size f + 20) 0 + cond (s .tone) (infe-size f) 0))))) ≡ 8 + iinf-size f s
 size-of f s =
     omega (
       arith,
-      cond-mul (s .exif) (19 + f .id + 0),
-      ap (λ (n : ℕ). n * (19 + f .id)) (cond-mul (s .gain) 2),
+      cond-mul (s .exif) (infe-size f + 0),
+      ap (λ (n : ℕ). n * (infe-size f)) (cond-mul (s .gain) 2),
       cond-mul (s .gain) 20,
-      cond-mul (s .gain) (58 + 2 * f .id),
-      cond-mul (s .tone) (19 + f .id),
+      cond-mul (s .gain) (2 * infe-size f + 20),
+      cond-mul (s .tone) (infe-size f),
     )
 
 write-given-infe-requires : tie.Need-write-given-infe-requires

@@ -7,7 +7,7 @@ use native.Mathlib.Omega.{arith}
 use borrow.Author.Needs.{needs}
 use Rattle.octets.proofs.Stores.{retold, no-boxes}
 use Rattle.panel.specs.Form.{form-of}
-use Rattle.heif.specs.Iref.{reference}
+use Rattle.heif.specs.Iref.{reference, reference-size}
 use Rattle.write_iref.proofs.write_exif_ref.Statement.{statement}
 use Rattle.write_iref.proofs.write_exif_ref.Tie as tie
 
@@ -15,7 +15,7 @@ write-ref-requires : tie.Need-write-ref-requires
 write-ref-requires c κs =
     let i = c .before .before .before .before in
     let start = i .before .before in
-    omega (arith, start .pre .0, ap (λ (b : Bool). cond {A = ℕ} b (10 + 2 * form-of (start .args .form) .id) 0) (i .if1 .taken))
+    omega (arith, start .pre .0, ap (λ (b : Bool). cond {A = ℕ} b (reference-size (form-of (start .args .form)) 1) 0) (i .if1 .taken))
 
 returns : tie.Need-returns
 returns c =

@@ -4,27 +4,17 @@ use mathlib.Core.Bool.{cond}
 use Prim.Native.Nat.{_+_, _*_}
 use native.Mathlib.Omega.{arith}
 use borrow.Author.Needs.{needs}
-use Rattle.octets.proofs.Lists.{cond-mul}
 use Rattle.octets.proofs.Stores.{kept, retold, _▸_}
 use Rattle.panel.specs.Form.{Form, form-of}
 use Rattle.panel.specs.declared.Shape.{Shape}
-use Rattle.heif.specs.Iref.{reference-size, iref-size}
+use Rattle.heif.specs.Iref.{reference-size, gain-references-size, iref-size}
 use Rattle.write_ids.proofs.Forms.{raised}
 use Rattle.write_iref.proofs.write_iref.Statement.{statement}
 use Rattle.write_iref.proofs.write_iref.Tie as tie
 
 size-of : (f : Form) (s : Shape)
-    → 12 + ((10 + f .id + f .id * s .tiles) + ((10 + f .id + f .id * s .tiles) + ((10 + 2 * f .id) + (cond (s .exif) (10 + 2 * f .id) 0 + (cond (s .gain) (20 + 4 * f .id) 0 + cond (s .tone) (10 + 3 * f .id) 0))))) ≡ 8 + iref-size f s
-size-of f s =
-    omega (
-      arith,
-      cond-mul (s .exif) (10 + 2 * f .id),
-      cond-mul (s .exif) (reference-size f 1),
-      cond-mul (s .gain) (20 + 4 * f .id),
-      cond-mul (s .gain) (2 * reference-size f 1),
-      cond-mul (s .tone) (10 + 3 * f .id),
-      cond-mul (s .tone) (reference-size f 2),
-    )
+    → 12 + (reference-size f (s .tiles) + (reference-size f (s .tiles) + (reference-size f 1 + (cond (s .exif) (reference-size f 1) 0 + gain-references-size f s)))) ≡ 8 + iref-size f s
+size-of f s = omega arith
 
 write-iref-requires : tie.Need-write-iref-requires
 write-iref-requires c κs =

@@ -2,12 +2,13 @@
 use mathlib.Core.Path.{refl, ap}
 use mathlib.Core.Bool.{Bool, cond}
 use mathlib.Core.List.{[], _∷_}
-use Prim.Native.Nat.{ℕ}
+use Prim.Native.Nat.{ℕ, _+_}
 use native.Mathlib.Omega.{arith}
 use borrow.Author.Needs.{needs}
 use Rattle.octets.specs.Boxes.{boxes, box}
 use Rattle.octets.proofs.Stores.{retold, no-boxes}
 use Rattle.heif.specs.Grpl.{altr}
+use Rattle.heif.specs.Grpl.{altr-size}
 use Rattle.write_boxes.proofs.grpl.write_groups.Statement.{statement}
 use Rattle.write_boxes.proofs.grpl.write_groups.Tie as tie
 
@@ -15,7 +16,7 @@ write-grpl-requires : tie.Need-write-grpl-requires
 write-grpl-requires c κs =
     let i = c .before .before .before in
     let start = i .before .before in
-    (omega (arith, start .pre .0, ap (λ (b : Bool). cond {A = ℕ} b 36 0) (i .if1 .taken)), omega arith)
+    (omega (arith, start .pre .0, ap (λ (b : Bool). cond {A = ℕ} b (8 + altr-size) 0) (i .if1 .taken)), omega arith)
 
 returns : tie.Need-returns
 returns c =

@@ -17,7 +17,7 @@ both true x y r = refl
 both false x y r = refl
 
 -- their sizes, where an id has k bytes
-sizes : (b : Bool) (k : ℕ) → cond b (19 + k + 0) 0 + cond b (19 + k + 20) 0 ≡ cond b (58 + 2 * k) 0
+sizes : (b : Bool) (k : ℕ) → cond b (19 + k + 0) 0 + cond b (19 + k + 20) 0 ≡ cond b (2 * (19 + k) + 20) 0
 sizes true k = omega arith
 sizes false k = refl
 

@@ -7,6 +7,7 @@ use lib.ListN.{length}
 use borrow.Author.Needs.{needs}
 use Rattle.octets.proofs.Stores.{no-boxes}
 use Rattle.panel.specs.Form.{form-of}
+use Rattle.heif.specs.Iinf.{infe-size}
 use Rattle.write_iinf.proofs.infe.write_given_infe.Statement.{statement}
 use Rattle.write_iinf.proofs.infe.write_given_infe.Tie as tie
 
@@ -14,7 +15,7 @@ write-infe-requires : tie.Need-write-infe-requires
 write-infe-requires c κs =
     let i = c .before in
     let start = i .before .before .before in
-    (omega (arith, start .pre .0, ap (λ (b : Bool). cond {A = ℕ} b (19 + form-of (start .args .form) .id + length (start .args .content-type .now)) 0) (i .if1 .taken)), start .pre .1)
+    (omega (arith, start .pre .0, ap (λ (b : Bool). cond {A = ℕ} b (infe-size (form-of (start .args .form)) + length (start .args .content-type .now)) 0) (i .if1 .taken)), start .pre .1)
 
 returns : tie.Need-returns
 returns c =

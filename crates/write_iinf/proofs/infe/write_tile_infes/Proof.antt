@@ -8,7 +8,7 @@ use Rattle.octets.proofs.Stores.{told}
 use Rattle.octets.proofs.Boxes.{boxes-map}
 use Rattle.panel.specs.Form.{Form, form-of}
 use Rattle.heif.specs.Items.{ids-from}
-use Rattle.heif.specs.Iinf.{infe}
+use Rattle.heif.specs.Iinf.{infe, infe-size}
 use Rattle.write_ids.proofs.Loops.{Turn, begun, room, turned, ended}
 use Rattle.write_iinf.proofs.infe.write_tile_infes.Statement.{statement}
 use Rattle.write_iinf.proofs.infe.write_tile_infes.Tie as tie
@@ -18,7 +18,7 @@ abbrev print : Form → ℕ → List ℕ
 print f id = boxes (infe f 1 id "hvc1" [] ∷ [])
 
 abbrev Inv-loop : tie.InvT-loop
-Inv-loop out₀ at form n left₀ a₀ id₀ t8 t9 out left a id = Turn (print (form-of form)) (19 + form-of form .id) out₀ at n id₀ out left a id
+Inv-loop out₀ at form n left₀ a₀ id₀ t8 t9 out left a id = Turn (print (form-of form)) (infe-size (form-of form)) out₀ at n id₀ out left a id
 
 abbrev μ-loop : tie.MeasureT-loop
 μ-loop out₀ at form n left₀ a₀ id₀ t8 t9 out left a id = left

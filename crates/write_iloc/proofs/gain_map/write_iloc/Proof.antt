@@ -7,6 +7,7 @@ use native.Mathlib.Omega.{arith}
 use borrow.Author.Needs.{needs}
 use Rattle.octets.proofs.Stores.{_▹_, kept, told, nothing}
 use Rattle.panel.specs.Form.{form-of}
+use Rattle.heif.specs.Iloc.{entry-size}
 use Rattle.write_iloc.specs.Spans.{spans}
 use Rattle.write_iloc.proofs.GainMap.{tone-behind, tone-absent}
 use Rattle.write_iloc.proofs.gain_map.write_iloc.Statement.{statement}
@@ -15,13 +16,13 @@ use Rattle.write_iloc.proofs.gain_map.write_iloc.Tie as tie
 write-image-locations-requires : tie.Need-write-image-locations-requires
 write-image-locations-requires c κs =
     let start = c .before .before .before in
-    (omega (arith, start .pre .0, ap (λ (b : Bool). cond {A = ℕ} b (28 + 2 * form-of (start .args .form) .id) 0) (c .before .if1 .taken)), (start .pre .1 .0, omega (arith, start .pre .1 .1)))
+    (omega (arith, start .pre .0, ap (λ (b : Bool). cond {A = ℕ} b (2 * entry-size (form-of (start .args .form))) 0) (c .before .if1 .taken)), (start .pre .1 .0, omega (arith, start .pre .1 .1)))
 
 write-tone-location-requires : tie.Need-write-tone-location-requires
 write-tone-location-requires c κs =
     let c1 = c .before .before .before .before .before in
     let start = c1 .before .before .before .before in
-    (omega (arith, start .pre .0, (c1 .write-image-locations .ensures) .end, kept (c1 .write-image-locations .ensures), ap (λ (b : Bool). cond {A = ℕ} b (28 + 2 * form-of (start .args .form) .id) 0) (c .before .before .before .before .before .before .before .if1 .taken)), start .pre .1 .0)
+    (omega (arith, start .pre .0, (c1 .write-image-locations .ensures) .end, kept (c1 .write-image-locations .ensures), ap (λ (b : Bool). cond {A = ℕ} b (2 * entry-size (form-of (start .args .form))) 0) (c .before .before .before .before .before .before .before .if1 .taken)), start .pre .1 .0)
 
 returns : tie.Need-returns
 returns c =

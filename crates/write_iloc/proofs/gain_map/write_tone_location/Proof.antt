@@ -9,7 +9,7 @@ use Rattle.octets.proofs.Lists.{flatMap-one}
 use Rattle.octets.proofs.Stores.{told, nothing}
 use Rattle.panel.specs.Form.{form-of}
 use Rattle.heif.specs.Items.{gain-id}
-use Rattle.heif.specs.Iloc.{entry}
+use Rattle.heif.specs.Iloc.{entry, entry-size}
 use Rattle.write_iloc.specs.Spans.{spans, location}
 use Rattle.write_iloc.proofs.gain_map.write_tone_location.Statement.{statement}
 use Rattle.write_iloc.proofs.gain_map.write_tone_location.Tie as tie
@@ -18,7 +18,7 @@ write-location-requires : tie.Need-write-location-requires
 write-location-requires c κs =
     let i = c .before .before in
     let start = i .before .before in
-    omega (arith, start .pre .0, ap (λ (b : Bool). cond {A = ℕ} b (14 + form-of (start .args .form) .id) 0) (i .if1 .taken))
+    omega (arith, start .pre .0, ap (λ (b : Bool). cond {A = ℕ} b (entry-size (form-of (start .args .form))) 0) (i .if1 .taken))
 
 returns : tie.Need-returns
 unfolding spans flatMap

@@ -8,7 +8,7 @@ use lib.Seq.{drop-length}
 use Rattle.octets.specs.Numbers.{total}
 use Rattle.octets.proofs.Stores.{Owes, owes, turn, paid}
 use Rattle.panel.specs.Form.{Form, form-of}
-use Rattle.heif.specs.Iloc.{entry, located}
+use Rattle.heif.specs.Iloc.{entry, located, entry-size}
 use Rattle.write_ids.proofs.Loops.{mul-all, mul-left, mul-none}
 use Rattle.write_iloc.specs.Spans.{spans}
 use Rattle.write_iloc.proofs.Spans.{total-left, entries-step}
@@ -25,7 +25,7 @@ record Turn (f : Form) (k : ℕ) (l : List ℕ) (at : ℕ) (ls : List ℕ) (firs
   owed : Owes l at (k * length ls) (flatMap (entry f) (located first 0 (spans pos ls))) out a (k * (length ls - i)) (flatMap (entry f) (located id 0 (spans p (drop i ls))))
 
 abbrev Inv-loop : tie.InvT-loop
-Inv-loop out₀ at form offset lengths i₀ a₀ id₀ p₀ out i a id p = Turn (form-of form) (14 + form-of form .id) out₀ at lengths id₀ offset out i a id p
+Inv-loop out₀ at form offset lengths i₀ a₀ id₀ p₀ out i a id p = Turn (form-of form) (entry-size (form-of form)) out₀ at lengths id₀ offset out i a id p
 
 abbrev μ-loop : tie.MeasureT-loop
 μ-loop out₀ at form offset lengths i₀ a₀ id₀ p₀ out i a id p = length lengths - i
@@ -33,7 +33,7 @@ abbrev μ-loop : tie.MeasureT-loop
 loop-holds : tie.Need-loop-holds Inv-loop μ-loop
 loop-holds c =
     let start = c .before .before in
-    let m = mul-all (14 + form-of (start .args .form) .id) (length (start .args .lengths .now)) in
+    let m = mul-all (entry-size (form-of (start .args .form))) (length (start .args .lengths .now)) in
     record { within = omega arith; len = refl; place = omega (arith, m); ids = omega arith; sum = refl; owed = owes m }
 
 write-location-requires : tie.Need-write-location-requires Inv-loop μ-loop
@@ -41,7 +41,7 @@ write-location-requires c κs =
     let test = c .before .before in
     let l = test .before in
     let start = l .before .before .before in
-    omega (arith, l .loop .inv .place, l .loop .inv .len, start .pre .0, mul-left (14 + form-of (start .args .form) .id) (test .loop-test .taken))
+    omega (arith, l .loop .inv .place, l .loop .inv .len, start .pre .0, mul-left (entry-size (form-of (start .args .form))) (test .loop-test .taken))
 
 add-p : tie.Need-add-p Inv-loop μ-loop
 add-p c =
@@ -56,7 +56,7 @@ loop-again c =
     let l = test .before in
     let start = l .before .before .before in
     let z = total-left (start .args .lengths .now) (l .loop .i) (test .loop-test .taken) in
-    let k = mul-left (14 + form-of (start .args .form) .id) (test .loop-test .taken) in
+    let k = mul-left (entry-size (form-of (start .args .form))) (test .loop-test .taken) in
     record {
       within = omega arith;
       len = omega arith;
@@ -75,7 +75,7 @@ unfolding spans flatMap
 returns c =
     let start = c .before .before .before .before in
     let e : c .before .loop .i ≡ length (start .args .lengths .now) = omega arith in
-    paid (c .before .loop .inv .owed) (rw (e, drop-length)) (mul-none (14 + form-of (start .args .form) .id) e)
+    paid (c .before .loop .inv .owed) (rw (e, drop-length)) (mul-none (entry-size (form-of (start .args .form))) e)
 
 pub write-tile-locations-spec : {M : Type 1} → statement M
 write-tile-locations-spec = tie.close (tie.spec Inv-loop μ-loop loop-holds (λ c. omega arith) (λ c. omega arith) write-location-requires (λ c. omega arith) add-p (λ c. omega arith) (λ c. omega arith) loop-again same-length returns)

@@ -7,7 +7,7 @@ use native.Mathlib.Omega.{arith}
 use borrow.Author.Needs.{needs}
 use Rattle.octets.proofs.Stores.{kept, retold, no-boxes, _▸_}
 use Rattle.panel.specs.Form.{form-of}
-use Rattle.heif.specs.Iref.{reference}
+use Rattle.heif.specs.Iref.{reference, reference-size}
 use Rattle.write_iref.proofs.gain_map.write_image_refs.Statement.{statement}
 use Rattle.write_iref.proofs.gain_map.write_image_refs.Tie as tie
 
@@ -15,7 +15,7 @@ write-ref-requires : tie.Need-write-ref-requires
 write-ref-requires c κs =
     let i = c .before .before .before .before .before in
     let start = i .before .before in
-    omega (arith, start .pre .0, ap (λ (b : Bool). cond {A = ℕ} b (20 + 4 * form-of (start .args .form) .id) 0) (i .if1 .taken))
+    omega (arith, start .pre .0, ap (λ (b : Bool). cond {A = ℕ} b (2 * reference-size (form-of (start .args .form)) 1) 0) (i .if1 .taken))
 
 write-ref-requires-2 : tie.Need-write-ref-requires-2
 write-ref-requires-2 c κs =
@@ -23,7 +23,7 @@ write-ref-requires-2 c κs =
     let i = c3 .before .before .before .before .before .before in
     let start = i .before .before in
     let w = (c3 .write-ref .ensures) .wrote in
-    omega (arith, start .pre .0, w .end, kept w, ap (λ (b : Bool). cond {A = ℕ} b (20 + 4 * form-of (start .args .form) .id) 0) (i .if1 .taken))
+    omega (arith, start .pre .0, w .end, kept w, ap (λ (b : Bool). cond {A = ℕ} b (2 * reference-size (form-of (start .args .form)) 1) 0) (i .if1 .taken))
 
 returns : tie.Need-returns
 returns c =
