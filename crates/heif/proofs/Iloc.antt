@@ -14,7 +14,7 @@ use Rattle.panel.specs.Form.{Form}
 use Rattle.heif.specs.Items.{shape, colour-grid, alpha-tile, alpha-grid, exif-id, last-id, Even}
 use Rattle.heif.specs.Mdat.{other-payloads, payloads}
 use Rattle.heif.specs.Idat.{descriptor}
-use Rattle.heif.specs.Iloc.{Extent, Location, extents, located, locations, entry, iloc, iloc-size}
+use Rattle.heif.specs.Iloc.{Extent, Location, extents, located, locations, entry, iloc, iloc-size, entry-size}
 use Rattle.heif.proofs.Mdat.{length-samples, cut, length-exif-payload, length-gain-payloads}
 
 -- ---- extents, run by run
@@ -67,18 +67,18 @@ locations-runs at p h =
 
 -- ---- how many bytes
 
-pub length-entry : (f : Form) (l : Location) → length (entry f l) ≡ 14 + f .id
+pub length-entry : (f : Form) (l : Location) → length (entry f l) ≡ entry-size f
 length-entry f l =
     omega (arith, length-append (be (f .id) (l .id)) (be 2 (l .method) ‖ be 2 0 ‖ be 2 1 ‖ be 4 (l .extent .offset) ‖ be 4 (l .extent .size)), length-be (f .id) (l .id))
 
-pub length-locations : (at : ℕ) (p : Panel) → Even p → length (locations at p) ≡ last-id (shape p)
+length-locations : (at : ℕ) (p : Panel) → Even p → length (locations at p) ≡ last-id (shape p)
 length-locations at p h =
     ap length (locations-runs at p (h .counts))
     ∙ simp (length-append, length-located, length-extents, length-samples, length-exif-payload, length-gain-payloads) (omega arith)
 
-length-iloc-of : (f : Form) (l : List Location) → length (iloc f l .body) ≡ 6 + f .count + length l * (14 + f .id)
-length-iloc-of f l = simp (length-append, length-be, length-flatMap (entry f) (14 + f .id) (length-entry f)) (omega arith)
+length-iloc-of : (f : Form) (l : List Location) → length (iloc f l .body) ≡ 6 + f .count + length l * entry-size f
+length-iloc-of f l = simp (length-append, length-be, length-flatMap (entry f) (entry-size f) (length-entry f)) (omega arith)
 
 -- wherever the data begin
 pub length-iloc : (f : Form) (at : ℕ) (p : Panel) → Even p → length (iloc f (locations at p) .body) ≡ iloc-size f (shape p)
-length-iloc f at p h = length-iloc-of f (locations at p) ∙ ap (λ (n : ℕ). 6 + f .count + n * (14 + f .id)) (length-locations at p h)
+length-iloc f at p h = length-iloc-of f (locations at p) ∙ ap (λ (n : ℕ). 6 + f .count + n * entry-size f) (length-locations at p h)

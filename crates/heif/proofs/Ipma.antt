@@ -118,7 +118,7 @@ length-picture f first n id l m =
     ∙ (λ i. length-each f first n l i + length-association f id m i)
 
 -- an entry that is there only if so
-pub length-given-entry : (f : Form) (b : Bool) (id : ℕ) (l : List ℕ)
+length-given-entry : (f : Form) (b : Bool) (id : ℕ) (l : List ℕ)
     → length (flatMap (association f) (given b ((id with l) ∷ []))) ≡ cond b (f .id + 1 + length l) 0
 unfolding flatMap
 length-given-entry f true id l = ap length (flatMap-one (association f) (id with l)) ∙ length-association f id l

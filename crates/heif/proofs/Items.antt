@@ -18,7 +18,7 @@ length-ids-from n (suc k) = ap suc (length-ids-from (suc n) k)
 pub length-given : {A : Type 0} (b : Bool) (l : List A) → length (given b l) ≡ cond b (length l) 0
 length-given b l = length-cond b l []
 
-pub length-boxes-given : (b : Bool) (l : List Box) → length (boxes (given b l)) ≡ cond b (length (boxes l)) 0
+length-boxes-given : (b : Bool) (l : List Box) → length (boxes (given b l)) ≡ cond b (length (boxes l)) 0
 length-boxes-given true l = refl
 length-boxes-given false l = length-none
 

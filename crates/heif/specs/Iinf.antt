@@ -18,21 +18,22 @@ infe f flags id type more = full "infe" (2 + f .step) flags (be (f .id) id ‖ b
 abbrev pub tile-infes : Form → ℕ → ℕ → List Box
 tile-infes f first n = map (λ id. infe f 1 id "hvc1" []) (ids-from first n)
 
+-- ---- the items by rising id: the colour picture's, the alpha picture's, the Exif, the gain map's
+
+abbrev pub colour-infes : Form → Shape → List Box
+colour-infes f s = tile-infes f 1 (s .tiles) ‖ infe f 0 (colour-grid s) "grid" [] ∷ []
+
+abbrev pub alpha-infes : Form → Shape → List Box
+alpha-infes f s = tile-infes f (alpha-tile s) (s .tiles) ‖ infe f 0 (alpha-grid s) "grid" [] ∷ []
+
 -- the gain image and its XMP, and the tone map
 abbrev pub gain-infes : Form → Shape → List Box
 gain-infes f s =
     given (s .gain) (infe f 1 (gain-id s) "hvc1" [] ∷ infe f 1 (gain-id s + 1) "mime" (text "application/rdf+xml" ‖ be 1 0) ∷ [])
     ‖ given (s .tone) (infe f 0 (gain-id s + 2) "tmap" [] ∷ [])
 
--- the items by rising id
 abbrev pub infes : Form → Shape → List Box
-infes f s =
-    tile-infes f 1 (s .tiles)
-    ‖ infe f 0 (colour-grid s) "grid" []
-    ∷ tile-infes f (alpha-tile s) (s .tiles)
-    ‖ infe f 0 (alpha-grid s) "grid" []
-    ∷ given (s .exif) (infe f 0 (exif-id s) "Exif" [] ∷ [])
-    ‖ gain-infes f s
+infes f s = colour-infes f s ‖ alpha-infes f s ‖ given (s .exif) (infe f 0 (exif-id s) "Exif" [] ∷ []) ‖ gain-infes f s
 
 abbrev pub iinf : Form → Shape → Box
 iinf f s = full "iinf" (f .step) 0 (be (f .count) (length (infes f s)) ‖ boxes (infes f s))

@@ -12,7 +12,7 @@ use Rattle.panel.specs.Form.{Form}
 use Rattle.heif.specs.Items.{shape}
 use Rattle.heif.specs.Mdat.{other-payloads, payloads}
 use Rattle.heif.specs.Idat.{descriptor}
-use Rattle.heif.specs.Iloc.{Location, extents, located, locations, entry}
+use Rattle.heif.specs.Iloc.{Location, extents, located, locations, entry, entry-size}
 use Rattle.heif.proofs.Mdat.{length-samples, cut}
 use Rattle.heif.proofs.Iloc.{locations-runs, length-entry}
 
@@ -72,7 +72,7 @@ module _ (p q : Panel) (hp : length (p .alpha .lengths) ≡ shape p .tiles) (hq 
   -- the lengths of all payloads, from the printed entries
   sizes-bytes : (f : Form) (at bt : ℕ) → flatMap (entry f) (locations at p) ≡ flatMap (entry f) (locations bt q) → map length-bytes (payloads p) ≡ map length-bytes (payloads q)
   sizes-bytes f at bt e =
-      let s = sym (locations-sizes at p hp) ∙ flatMap-inj (entry f) (14 + f .id) (length-entry f) size-bytes (omega arith) (entry-tells-size f) (locations at p) (locations bt q) e ∙ locations-sizes bt q hq in
+      let s = sym (locations-sizes at p hp) ∙ flatMap-inj (entry f) (entry-size f) (length-entry f) size-bytes (omega arith) (entry-tells-size f) (locations at p) (locations bt q) e ∙ locations-sizes bt q hq in
       let c = cancel (map length-bytes (cut (p .tiles))) (map length-bytes (cut (q .tiles))) (simp length-map tiles-long) s in
       let d = cancel (be 4 (length (descriptor (p .dims))) ∷ []) (be 4 (length (descriptor (q .dims))) ∷ []) refl (c .1) in
       let a = cancel (map length-bytes (cut (p .alpha))) (map length-bytes (cut (q .alpha))) (simp length-map alpha-long) (d .1) in

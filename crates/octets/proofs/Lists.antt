@@ -7,7 +7,7 @@ use native.Mathlib.Nat.{zero-mul, suc-mul}
 use native.Mathlib.Numerals.{add-one}
 use native.Mathlib.Omega.{arith}
 use lib.ListN.{length, length-append, take, drop, getD, take-append-drop}
-use lib.Seq.{take-suc}
+use lib.Seq.{take-suc, drop-cons}
 use Rattle.octets.specs.Numbers.{total}
 
 -- ---- fronts of equal length
@@ -46,6 +46,13 @@ total-step l i h = rw (add-one, take-suc l i 0) (omega (arith, total-append (tak
 
 pub total-take : (l : List ℕ) (i : ℕ) → total (take i l) ≤ total l
 total-take l i = omega (arith, total-append (take i l) (drop i l), ap total (take-append-drop i l))
+
+-- what is left of a list within it: the element, and what is left behind it
+pub drop-step : (l : List ℕ) (i : ℕ) → i < length l → drop i l ≡ getD l i 0 ∷ drop (i + 1) l
+drop-step l i h = rw (add-one, drop-cons l i 0)
+
+pub total-left : (l : List ℕ) (i : ℕ) → i < length l → total (drop i l) ≡ getD l i 0 + total (drop (i + 1) l)
+total-left l i h = ap total (drop-step l i h)
 
 -- ---- lists of lists
 
@@ -109,6 +116,3 @@ module _ {A : Type 0} (print : A → List ℕ) where
         let r = cancel (print a) (print b) (wide a ∙ sym (wide b)) e in
         let w = flatMap-inj read h same l m (r .1) in
         λ i. same a b (r .0) i ∷ w i
-
-pub pictures-joined : {A : Type 0} (t u r : List A) (g h : A) → (t ++ (g ∷ [])) ++ ((u ++ (h ∷ [])) ++ r) ≡ t ++ (g ∷ (u ++ (h ∷ r)))
-pictures-joined t u r g h = append-assoc t (g ∷ []) _ ∙ ap (λ (x : List _). t ++ (g ∷ x)) (append-assoc u (h ∷ []) r)

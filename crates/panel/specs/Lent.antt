@@ -16,8 +16,8 @@ pub record Lent : Type 0 where
   pub alternate-icc : List ℕ
 
 -- in the order of a call's parameters
-unfoldable pub lent : List ℕ → List ℕ → List ℕ → List ℕ → List ℕ → List ℕ → List ℕ → List ℕ → List ℕ → List ℕ → List ℕ → List ℕ → List ℕ → Lent
-lent color-hvcc alpha-hvcc color-lengths alpha-lengths color-samples alpha-samples icc exif gain-hvcc gain-sample gain-xmp gain-tmap alternate-icc =
+abbrev in-order : List ℕ → List ℕ → List ℕ → List ℕ → List ℕ → List ℕ → List ℕ → List ℕ → List ℕ → List ℕ → List ℕ → List ℕ → List ℕ → Lent
+in-order color-hvcc alpha-hvcc color-lengths alpha-lengths color-samples alpha-samples icc exif gain-hvcc gain-sample gain-xmp gain-tmap alternate-icc =
     record {
       tiles = record { hvcc = color-hvcc; lengths = color-lengths; bytes = color-samples };
       alpha = record { hvcc = alpha-hvcc; lengths = alpha-lengths; bytes = alpha-samples };
@@ -30,32 +30,15 @@ lent color-hvcc alpha-hvcc color-lengths alpha-lengths color-samples alpha-sampl
       alternate-icc = alternate-icc;
     }
 
+-- all of them, as a call is lent them
+unfoldable pub lent : List ℕ → List ℕ → List ℕ → List ℕ → List ℕ → List ℕ → List ℕ → List ℕ → List ℕ → List ℕ → List ℕ → List ℕ → List ℕ → Lent
+lent color-hvcc alpha-hvcc color-lengths alpha-lengths color-samples alpha-samples icc exif gain-hvcc gain-sample gain-xmp gain-tmap alternate-icc =
+    in-order color-hvcc alpha-hvcc color-lengths alpha-lengths color-samples alpha-samples icc exif gain-hvcc gain-sample gain-xmp gain-tmap alternate-icc
+
 -- those of ipco alone: the two decoder configuration records, the profile, the gain map's record and its alternate profile
 abbrev pub lent-props : List ℕ → List ℕ → List ℕ → List ℕ → List ℕ → Lent
-lent-props colour alpha icc gain alternate =
-    record {
-      tiles = record { hvcc = colour; lengths = []; bytes = [] };
-      alpha = record { hvcc = alpha; lengths = []; bytes = [] };
-      icc = icc;
-      exif = [];
-      gain-hvcc = gain;
-      gain-sample = [];
-      gain-xmp = [];
-      gain-tmap = [];
-      alternate-icc = alternate;
-    }
+lent-props color-hvcc alpha-hvcc icc gain-hvcc alternate-icc = in-order color-hvcc alpha-hvcc [] [] [] [] icc [] gain-hvcc [] [] [] alternate-icc
 
 -- those of the gain map alone
 abbrev pub lent-gain : List ℕ → List ℕ → List ℕ → List ℕ → List ℕ → Lent
-lent-gain hvcc sample xmp tmap icc =
-    record {
-      tiles = record { hvcc = []; lengths = []; bytes = [] };
-      alpha = record { hvcc = []; lengths = []; bytes = [] };
-      icc = [];
-      exif = [];
-      gain-hvcc = hvcc;
-      gain-sample = sample;
-      gain-xmp = xmp;
-      gain-tmap = tmap;
-      alternate-icc = icc;
-    }
+lent-gain hvcc sample xmp tmap icc = in-order [] [] [] [] [] [] [] [] hvcc sample xmp tmap icc

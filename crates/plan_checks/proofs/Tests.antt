@@ -4,11 +4,9 @@ use mathlib.Core.Bool.{Bool, true, false}
 use mathlib.Core.List.{List, _∷_}
 use Prim.Native.Nat.{ℕ, _+_, _*_, _^_, _<_, _≤_}
 use native.Mathlib.Nat.{le-of-lt, lt-of-le-of-lt, mul-le-mul-left, mul-lt-mul-of-pos-right}
-use native.Mathlib.Numerals.{add-one}
 use lib.Dec.{eqb}
-use lib.ListN.{length, drop, getD, drop-of-length-le}
+use lib.ListN.{length, drop, drop-of-length-le}
 use lib.Pow.{pow-pos, pow-add}
-use lib.Seq.{drop-cons}
 use borrow.Author.Tests.{eqb-true, not-false}
 use Rattle.octets.specs.Numbers.{total}
 use Rattle.heif.specs.Refusal.{Check, first, differ}
@@ -37,12 +35,6 @@ pub same : (m n : ℕ) → differ m n ≡ false → m ≡ n
 same m n e = eqb-true m n (not-false (eqb m n) e)
 
 -- ---- sums and products
-
--- one turn of a loop that adds
-pub total-step : (l : List ℕ) (i : ℕ) → i < length l → total (drop i l) ≡ getD l i 0 + total (drop (i + 1) l)
-total-step l i h =
-    let e : drop i l ≡ getD l i 0 ∷ drop (i + 1) l = rw (add-one, drop-cons l i 0) in
-    ap total e
 
 pub total-none : (l : List ℕ) (i : ℕ) → length l ≤ i → total (drop i l) ≡ 0
 total-none l i h = ap total (drop-of-length-le l h)

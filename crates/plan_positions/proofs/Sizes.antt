@@ -1,7 +1,6 @@
 -- The size of ipma, from the runs of positions: where they are the definition's, as many bytes as the definition has.
 use mathlib.Core.Path.{_≡_, ap, _∙_}
 use mathlib.Core.List.{List}
-use Prim.Native.Nat.{_+_}
 use lib.ListN.{length}
 use Rattle.panel.specs.Panel.{Panel}
 use Rattle.panel.specs.Form.{Form}

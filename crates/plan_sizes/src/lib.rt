@@ -1,4 +1,6 @@
-// The whole size of each box of a file and the sizes of its payloads, from lengths alone; that of ipco stands in properties.
+// The whole size of each box of a file and the sizes of its payloads, from lengths alone.
+//
+// The size of ipco stands in `properties`, and that of ipma is asked of `plan_positions`.
 
 pub mod lengths;
 pub mod properties;

@@ -28,7 +28,7 @@ fn write_altr(out: &mut [u8], at: usize, tone: WideItemId, grid: WideItemId) -> 
 }
 
 // grpl: one group.
-pub fn write_grpl(out: &mut [u8], at: usize, tone: WideItemId, grid: WideItemId) -> usize
+fn write_grpl(out: &mut [u8], at: usize, tone: WideItemId, grid: WideItemId) -> usize
     requires { ⌜ at + (8 + altr-size) ≤ length (now out) ⌝ }
     requires { ⌜ tone .0 < 4294967295 ⌝ }
     ensures { λ r. ⌜ Boxed (now (out .entry)) at (8 + altr-size) (box "grpl" (boxes (altr (tone .0) (grid .0) ∷ [])) ∷ []) (now (out .exit)) r ⌝ }

@@ -41,7 +41,7 @@ fn write_side(out: &mut [u8], at: usize, large: bool, n: u32) -> usize
 }
 
 // The descriptor of a grid.
-pub fn write_descriptor(out: &mut [u8], at: usize, d: GridDims) -> usize
+fn write_descriptor(out: &mut [u8], at: usize, d: GridDims) -> usize
     requires { ⌜ at + descriptor-size d ≤ length (now out) ⌝ }
     requires { ⌜ Sided d ⌝ }
     ensures { λ r. ⌜ Wrote (now (out .entry)) at (descriptor-size d) (descriptor d) (now (out .exit)) r ⌝ }

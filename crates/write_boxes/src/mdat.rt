@@ -41,7 +41,7 @@ fn put_part(out: &mut [u8], at: usize, present: Part, bytes: &[u8]) -> usize
 }
 
 // The sample, the XMP and the tone map of a gain map, where there is one.
-pub fn write_data(
+fn write_data(
     out: &mut [u8],
     at: usize,
     gain: MaybeGainMap,

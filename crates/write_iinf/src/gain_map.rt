@@ -14,7 +14,7 @@ use plan_items::ids::tmap_id;
 use plan_items::ids::xmp_id;
 
 // The gain map's entries in iinf: the gain image and its XMP are hidden, the tone map is not.
-pub fn write_iinf(out: &mut [u8], at: usize, form: FileForm, s: Shape) -> usize
+pub(crate) fn write_iinf(out: &mut [u8], at: usize, form: FileForm, s: Shape) -> usize
     requires { ⌜ at + (cond (s .gain) (2 * infe-size (form-of form) + 20) 0 + cond (s .tone) (infe-size (form-of form)) 0) ≤ length (now out) ⌝ }
     requires { ⌜ Shaped s ⌝ }
     ensures { λ r. ⌜ Boxed (now (out .entry)) at (cond (s .gain) (2 * infe-size (form-of form) + 20) 0 + cond (s .tone) (infe-size (form-of form)) 0) (gain-infes (form-of form) s) (now (out .exit)) r ⌝ }

@@ -33,7 +33,7 @@ fn write_item_type(out: &mut [u8], at: usize, kind: &[u8; 4], content_type: &[u8
 
 // An item's id and type, whether it is hidden, and of a mime item the content type with a zero byte behind it. In every form the size fits in
 // 32 bits if it does with an id of four bytes.
-pub fn write_infe(
+pub(crate) fn write_infe(
     out: &mut [u8],
     at: usize,
     form: FileForm,
@@ -60,7 +60,7 @@ pub fn write_infe(
 }
 
 // The entry of an item that may be absent.
-pub fn write_given_infe(
+pub(crate) fn write_given_infe(
     out: &mut [u8],
     at: usize,
     form: FileForm,
@@ -81,7 +81,7 @@ pub fn write_given_infe(
 }
 
 // The hidden entries of n tiles from `first` on.
-pub fn write_tile_infes(
+pub(crate) fn write_tile_infes(
     out: &mut [u8],
     at: usize,
     form: FileForm,

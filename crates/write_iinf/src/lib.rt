@@ -7,11 +7,9 @@ ghost use mathlib.Core.Path.{_≡_};
 ghost use mathlib.Core.List.{[], _∷_};
 ghost use Prim.Native.Nat.{_+_, _*_, _≤_};
 ghost use lib.ListN.{length};
-ghost use Rattle.octets.specs.Numbers.{_‖_};
 ghost use Rattle.octets.specs.Stores.{Boxed};
 ghost use Rattle.panel.specs.Form.{form-of};
-ghost use Rattle.heif.specs.Items.{colour-grid, alpha-tile, alpha-grid};
-ghost use Rattle.heif.specs.Iinf.{infe, tile-infes, iinf, iinf-size, infe-size};
+ghost use Rattle.heif.specs.Iinf.{colour-infes, alpha-infes, iinf, infe-size, iinf-size};
 ghost use Rattle.plan_items.specs.Items.{Shaped};
 use crate::infe::write_given_infe;
 use crate::infe::write_infe;
@@ -29,9 +27,9 @@ use write_ids::form::write_item_box;
 
 // The hidden entries of the colour tiles, and the colour grid's.
 fn write_color_infes(out: &mut [u8], at: usize, form: FileForm, s: Shape) -> usize
-    requires { ⌜ at + (infe-size (form-of form) * s .tiles + (infe-size (form-of form))) ≤ length (now out) ⌝ }
+    requires { ⌜ at + (infe-size (form-of form) * s .tiles + infe-size (form-of form)) ≤ length (now out) ⌝ }
     requires { ⌜ Shaped s ⌝ }
-    ensures { λ r. ⌜ Boxed (now (out .entry)) at (infe-size (form-of form) * s .tiles + (infe-size (form-of form))) (tile-infes (form-of form) 1 (s .tiles) ‖ infe (form-of form) 0 (colour-grid s) "grid" [] ∷ []) (now (out .exit)) r ⌝ }
+    ensures { λ r. ⌜ Boxed (now (out .entry)) at (infe-size (form-of form) * s .tiles + infe-size (form-of form)) (colour-infes (form-of form) s) (now (out .exit)) r ⌝ }
 {
     let grid = color_grid_id(s);
     let a = write_tile_infes(out, at, form, WideItemId(1), s.tiles);
@@ -40,9 +38,9 @@ fn write_color_infes(out: &mut [u8], at: usize, form: FileForm, s: Shape) -> usi
 
 // The hidden entries of the alpha tiles, and the alpha grid's.
 fn write_alpha_infes(out: &mut [u8], at: usize, form: FileForm, s: Shape) -> usize
-    requires { ⌜ at + (infe-size (form-of form) * s .tiles + (infe-size (form-of form))) ≤ length (now out) ⌝ }
+    requires { ⌜ at + (infe-size (form-of form) * s .tiles + infe-size (form-of form)) ≤ length (now out) ⌝ }
     requires { ⌜ Shaped s ⌝ }
-    ensures { λ r. ⌜ Boxed (now (out .entry)) at (infe-size (form-of form) * s .tiles + (infe-size (form-of form))) (tile-infes (form-of form) (alpha-tile s) (s .tiles) ‖ infe (form-of form) 0 (alpha-grid s) "grid" [] ∷ []) (now (out .exit)) r ⌝ }
+    ensures { λ r. ⌜ Boxed (now (out .entry)) at (infe-size (form-of form) * s .tiles + infe-size (form-of form)) (alpha-infes (form-of form) s) (now (out .exit)) r ⌝ }
 {
     let first = alpha_tile_base(s);
     let alpha_grid = alpha_grid_id(s);

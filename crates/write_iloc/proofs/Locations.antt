@@ -49,7 +49,7 @@ length-other-sizes s e g = simp (length-append, length-given)
 
 -- the entries' bytes, by part
 pub iloc-long : (f : Form) (s : Shape) → iloc-size f s ≡ 6 + f .count + (entry-size f * (2 * s .tiles + 2) + (cond (s .exif) (entry-size f) 0 + (cond (s .gain) (2 * entry-size f) 0 + cond (s .tone) (entry-size f) 0)))
-iloc-long f s = omega (arith, cond-mul (s .exif) (entry-size f), ap (λ (n : ℕ). n * (entry-size f)) (cond-mul (s .gain) 2), cond-mul (s .gain) (2 * entry-size f), cond-mul (s .tone) (entry-size f))
+iloc-long f s = omega (arith, cond-mul (s .exif) (entry-size f), ap (λ (n : ℕ). n * entry-size f) (cond-mul (s .gain) 2), cond-mul (s .gain) (2 * entry-size f), cond-mul (s .tone) (entry-size f))
 
 -- elements printed in pieces
 pieces : {A : Type 0} (print : A → List ℕ) (t u o : List A) (g h : A) → (flatMap print t ++ print g) ++ ((flatMap print u ++ print h) ++ flatMap print o) ≡ flatMap print (t ++ (g ∷ (u ++ (h ∷ o))))
@@ -81,5 +81,5 @@ module _ (f : Form) (s : Shape) (size n color alpha other : ℕ) (cs ls os : Lis
       ≡ boxes (iloc f (placed s n color alpha other cs ls os) ∷ [])
   iloc-joined h =
       let l = placed s n color alpha other cs ls os in
-      let z : size ≡ 8 + length (iloc f l .body) = omega (arith, h, length-append (be (f .count) (length l)) (flatMap (entry f) l), length-be (f .count) (length l), length-flatMap (entry f) (entry-size f) (length-entry f) l, ap (λ (m : ℕ). m * (entry-size f)) length-placed) in
+      let z : size ≡ 8 + length (iloc f l .body) = omega (arith, h, length-append (be (f .count) (length l)) (flatMap (entry f) l), length-be (f .count) (length l), length-flatMap (entry f) (entry-size f) (length-entry f) l, ap (λ (m : ℕ). m * entry-size f) length-placed) in
       (λ i. be 4 (z i) ‖ text "iloc" ‖ be 1 (1 + f .step) ‖ be 3 0 ‖ be 2 17408 ‖ be (f .count) (sym length-placed i) ‖ entries-joined i) ∙ sym (boxes-one (iloc f l))

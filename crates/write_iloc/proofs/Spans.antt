@@ -6,9 +6,8 @@ use native.Mathlib.Nat.{add-zero}
 use native.Mathlib.Numerals.{add-one}
 use native.Mathlib.Omega.{arith}
 use lib.ListN.{length, drop, getD}
-use lib.Seq.{drop-cons}
 use Rattle.octets.specs.Numbers.{total}
-use Rattle.octets.proofs.Lists.{flatMap-append}
+use Rattle.octets.proofs.Lists.{drop-step, flatMap-append}
 use Rattle.panel.specs.Form.{Form}
 use Rattle.heif.specs.Iloc.{Extent, Location, extents, located, entry}
 use Rattle.write_iloc.specs.Spans.{spans, location}
@@ -17,13 +16,6 @@ pub extents-spans : (at : ℕ) (l : List (List ℕ)) → extents at l ≡ spans 
 unfolding spans
 extents-spans at [] = refl
 extents-spans at (x ∷ l) = ap (λ (r : List Extent). record { offset = at; size = length x } ∷ r) (extents-spans (at + length x) l)
-
--- what is left of a list within it: the element, and what is left behind it
-drop-step : (l : List ℕ) (i : ℕ) → i < length l → drop i l ≡ getD l i 0 ∷ drop (i + 1) l
-drop-step l i h = rw (add-one, drop-cons l i 0)
-
-pub total-left : (l : List ℕ) (i : ℕ) → i < length l → total (drop i l) ≡ getD l i 0 + total (drop (i + 1) l)
-total-left l i h = ap total (drop-step l i h)
 
 pub entries-step : (f : Form) (l : List ℕ) (i id at : ℕ) → i < length l
     → flatMap (entry f) (located id 0 (spans at (drop i l))) ≡ entry f (location id 0 at (getD l i 0)) ++ flatMap (entry f) (located (id + 1) 0 (spans (at + getD l i 0) (drop (i + 1) l)))

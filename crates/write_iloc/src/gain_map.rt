@@ -61,7 +61,7 @@ fn write_image_locations(
 }
 
 // The gain map's entries, whose payloads lie back to back from `offset` on.
-pub fn write_iloc(
+pub(crate) fn write_iloc(
     out: &mut [u8],
     at: usize,
     form: FileForm,

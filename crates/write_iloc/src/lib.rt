@@ -41,11 +41,11 @@ fn write_color_locations(
     lengths: &[u32],
     descriptor: u32,
 ) -> usize
-    requires { ⌜ at + (entry-size (form-of form) * length (now lengths) + (entry-size (form-of form))) ≤ length (now out) ⌝ }
+    requires { ⌜ at + (entry-size (form-of form) * length (now lengths) + entry-size (form-of form)) ≤ length (now out) ⌝ }
     requires { ⌜ Shaped s ⌝ }
     requires { ⌜ length (now lengths) ≡ s .tiles ⌝ }
     requires { ⌜ offset + total (now lengths) < 4294967296 ⌝ }
-    ensures { λ r. ⌜ Wrote (now (out .entry)) at (entry-size (form-of form) * length (now (lengths .entry)) + (entry-size (form-of form))) (flatMap (entry (form-of form)) (located 1 0 (spans offset (now (lengths .entry)))) ‖ entry (form-of form) (location (colour-grid s) 1 0 descriptor)) (now (out .exit)) r ⌝ }
+    ensures { λ r. ⌜ Wrote (now (out .entry)) at (entry-size (form-of form) * length (now (lengths .entry)) + entry-size (form-of form)) (flatMap (entry (form-of form)) (located 1 0 (spans offset (now (lengths .entry)))) ‖ entry (form-of form) (location (colour-grid s) 1 0 descriptor)) (now (out .exit)) r ⌝ }
 {
     let grid = color_grid_id(s);
     let a = write_tile_locations(out, at, form, WideItemId(1), offset, lengths);
@@ -62,11 +62,11 @@ fn write_alpha_locations(
     lengths: &[u32],
     descriptor: u32,
 ) -> usize
-    requires { ⌜ at + (entry-size (form-of form) * length (now lengths) + (entry-size (form-of form))) ≤ length (now out) ⌝ }
+    requires { ⌜ at + (entry-size (form-of form) * length (now lengths) + entry-size (form-of form)) ≤ length (now out) ⌝ }
     requires { ⌜ Shaped s ⌝ }
     requires { ⌜ length (now lengths) ≡ s .tiles ⌝ }
     requires { ⌜ offset + total (now lengths) < 4294967296 ⌝ }
-    ensures { λ r. ⌜ Wrote (now (out .entry)) at (entry-size (form-of form) * length (now (lengths .entry)) + (entry-size (form-of form))) (flatMap (entry (form-of form)) (located (alpha-tile s) 0 (spans offset (now (lengths .entry)))) ‖ entry (form-of form) (location (alpha-grid s) 1 descriptor descriptor)) (now (out .exit)) r ⌝ }
+    ensures { λ r. ⌜ Wrote (now (out .entry)) at (entry-size (form-of form) * length (now (lengths .entry)) + entry-size (form-of form)) (flatMap (entry (form-of form)) (located (alpha-tile s) 0 (spans offset (now (lengths .entry)))) ‖ entry (form-of form) (location (alpha-grid s) 1 descriptor descriptor)) (now (out .exit)) r ⌝ }
 {
     let first = alpha_tile_base(s);
     let grid = alpha_grid_id(s);
@@ -84,11 +84,11 @@ fn write_exif_locations(
     exif: u32,
     gain: PayloadLengths,
 ) -> usize
-    requires { ⌜ at + ((entry-size (form-of form)) + (cond (s .gain) (2 * entry-size (form-of form)) 0 + cond (s .tone) (entry-size (form-of form)) 0)) ≤ length (now out) ⌝ }
+    requires { ⌜ at + (entry-size (form-of form) + (cond (s .gain) (2 * entry-size (form-of form)) 0 + cond (s .tone) (entry-size (form-of form)) 0)) ≤ length (now out) ⌝ }
     requires { ⌜ Shaped s ⌝ }
     requires { ⌜ offset + (exif + (gain .sample + gain .xmp)) < 4294967296 ⌝ }
     requires { ⌜ s .exif ≡ true ⌝ }
-    ensures { λ r. ⌜ Wrote (now (out .entry)) at ((entry-size (form-of form)) + (cond (s .gain) (2 * entry-size (form-of form)) 0 + cond (s .tone) (entry-size (form-of form)) 0)) (flatMap (entry (form-of form)) (located (exif-id s) 0 (spans offset (other-sizes s exif gain)))) (now (out .exit)) r ⌝ }
+    ensures { λ r. ⌜ Wrote (now (out .entry)) at (entry-size (form-of form) + (cond (s .gain) (2 * entry-size (form-of form)) 0 + cond (s .tone) (entry-size (form-of form)) 0)) (flatMap (entry (form-of form)) (located (exif-id s) 0 (spans offset (other-sizes s exif gain)))) (now (out .exit)) r ⌝ }
 {
     let id = exif_id(s);
     let a = write_location(out, at, form, id, 0, offset, exif);

@@ -36,7 +36,7 @@ fn write_ordinary_location(
 }
 
 // The entry of an item as the form has it.
-pub fn write_location(
+pub(crate) fn write_location(
     out: &mut [u8],
     at: usize,
     form: FileForm,
@@ -56,7 +56,7 @@ pub fn write_location(
 }
 
 // The entries of tiles with ids from `first` on, whose samples lie back to back from `offset` on.
-pub fn write_tile_locations(
+pub(crate) fn write_tile_locations(
     out: &mut [u8],
     at: usize,
     form: FileForm,

@@ -27,7 +27,7 @@ fn write_ordinary_head(out: &mut [u8], at: usize, id: ItemId, count: u8) -> usiz
 }
 
 // The head of an entry as the form has it.
-pub fn write_association_head(
+pub(crate) fn write_association_head(
     out: &mut [u8],
     at: usize,
     form: FileForm,
@@ -63,7 +63,7 @@ fn write_color_tile_association(
 }
 
 // The entries of n colour tiles from `first` on.
-pub fn write_color_tile_associations(
+pub(crate) fn write_color_tile_associations(
     out: &mut [u8],
     at: usize,
     form: FileForm,
@@ -111,7 +111,7 @@ fn write_alpha_tile_association(
 }
 
 // The entries of n alpha tiles from `first` on.
-pub fn write_alpha_tile_associations(
+pub(crate) fn write_alpha_tile_associations(
     out: &mut [u8],
     at: usize,
     form: FileForm,

@@ -52,7 +52,7 @@ fn write_tone_association(out: &mut [u8], at: usize, form: FileForm, s: Shape, y
 }
 
 // The gain map's entries.
-pub fn write_ipma(out: &mut [u8], at: usize, form: FileForm, s: Shape, y: Places) -> usize
+pub(crate) fn write_ipma(out: &mut [u8], at: usize, form: FileForm, s: Shape, y: Places) -> usize
     requires { ⌜ at + length (flatMap (association (form-of form)) (gain-associations s (its-of y))) ≤ length (now out) ⌝ }
     requires { ⌜ Shaped s ⌝ }
     requires { ⌜ Narrow-places y ⌝ }

@@ -50,7 +50,7 @@ fn write_tone_ref(out: &mut [u8], at: usize, form: FileForm, s: Shape) -> usize
 }
 
 // The gain map's references.
-pub fn write_iref(out: &mut [u8], at: usize, form: FileForm, s: Shape) -> usize
+pub(crate) fn write_iref(out: &mut [u8], at: usize, form: FileForm, s: Shape) -> usize
     requires { ⌜ at + gain-references-size (form-of form) s ≤ length (now out) ⌝ }
     requires { ⌜ Shaped s ⌝ }
     ensures { λ r. ⌜ Boxed (now (out .entry)) at (gain-references-size (form-of form) s) (gain-references (form-of form) s) (now (out .exit)) r ⌝ }

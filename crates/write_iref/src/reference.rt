@@ -1,6 +1,6 @@
 // The references of iref.
 ghost use mathlib.Core.List.{[], _∷_, flatMap};
-ghost use Prim.Native.Nat.{_+_, _*_, _≤_, _<_};
+ghost use Prim.Native.Nat.{_+_, _≤_, _<_};
 ghost use lib.ListN.{length};
 ghost use Rattle.octets.specs.Numbers.{_‖_, be};
 ghost use Rattle.octets.specs.Boxes.{box-of};
@@ -17,7 +17,7 @@ use write_ids::write_id;
 use write_ids::write_ids;
 
 // From one item to another.
-pub fn write_ref(
+pub(crate) fn write_ref(
     out: &mut [u8],
     at: usize,
     form: FileForm,
@@ -35,7 +35,7 @@ pub fn write_ref(
 }
 
 // dimg from one item to two others.
-pub fn write_dimg_pair(
+pub(crate) fn write_dimg_pair(
     out: &mut [u8],
     at: usize,
     form: FileForm,
@@ -54,7 +54,7 @@ pub fn write_dimg_pair(
 }
 
 // dimg from a grid to its n tiles.
-pub fn write_dimg_tiles(
+pub(crate) fn write_dimg_tiles(
     out: &mut [u8],
     at: usize,
     form: FileForm,

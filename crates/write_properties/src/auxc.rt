@@ -12,7 +12,7 @@ use octets::w8;
 use octets::write_fullbox;
 
 // auxC: the type of an auxiliary picture, with a zero byte behind it.
-pub fn write_auxc(out: &mut [u8], at: usize, urn: &[u8]) -> usize
+pub(crate) fn write_auxc(out: &mut [u8], at: usize, urn: &[u8]) -> usize
     requires { ⌜ at + auxC-size (length (now urn)) ≤ length (now out) ⌝ }
     requires { ⌜ auxC-size (length (now urn)) < 4294967296 ⌝ }
     ensures { λ r. ⌜ Boxed (now (out .entry)) at (auxC-size (length (now (urn .entry)))) (full "auxC" 0 0 (now (urn .entry) ‖ be 1 0) ∷ []) (now (out .exit)) r ⌝ }

@@ -10,7 +10,7 @@ use octets::write_box;
 use panel::metadata::MaybeLightLevel;
 
 // clli, where there is a light level.
-pub fn write_clli(out: &mut [u8], at: usize, light: MaybeLightLevel) -> usize
+pub(crate) fn write_clli(out: &mut [u8], at: usize, light: MaybeLightLevel) -> usize
     requires { ⌜ at + clli-size (light-of light) ≤ length (now out) ⌝ }
     ensures { λ r. ⌜ Boxed (now (out .entry)) at (clli-size (light-of light)) (optional "clli" (clli-payload (light-of light))) (now (out .exit)) r ⌝ }
 {

@@ -30,7 +30,7 @@ fn range_byte(full_range: bool) -> u8
 }
 
 // By code points.
-pub fn write_colr_nclx(out: &mut [u8], at: usize, enc: Cicp) -> usize
+pub(crate) fn write_colr_nclx(out: &mut [u8], at: usize, enc: Cicp) -> usize
     requires { ⌜ at + nclx-size ≤ length (now out) ⌝ }
     ensures { λ r. ⌜ Boxed (now (out .entry)) at nclx-size (box "colr" (nclx-payload enc) ∷ []) (now (out .exit)) r ⌝ }
 {
@@ -69,7 +69,7 @@ fn write_colr_without_cicp(out: &mut [u8], at: usize, present: Part, icc: &[u8])
 }
 
 // The first colr: code points where they are present, else a profile, else unspecified full-range.
-pub fn write_colr(out: &mut [u8], at: usize, color: ColorMetadata, icc: &[u8]) -> usize
+pub(crate) fn write_colr(out: &mut [u8], at: usize, color: ColorMetadata, icc: &[u8]) -> usize
     requires { ⌜ at + first-colr-size (cicp-of (color .cicp)) (part (color .icc) (now icc)) ≤ length (now out) ⌝ }
     requires { ⌜ first-colr-size (cicp-of (color .cicp)) (part (color .icc) (now icc)) < 4294967296 ⌝ }
     ensures { λ r. ⌜ Boxed (now (out .entry)) at (first-colr-size (cicp-of (color .cicp)) (part (color .icc) (now (icc .entry)))) (box "colr" (first-colr (cicp-of (color .cicp)) (part (color .icc) (now (icc .entry)))) ∷ []) (now (out .exit)) r ⌝ }
@@ -95,7 +95,12 @@ fn write_profile(out: &mut [u8], at: usize, present: Part, icc: &[u8]) -> usize
 }
 
 // The second colr: a profile beside code points.
-pub fn write_secondary_colr(out: &mut [u8], at: usize, color: ColorMetadata, icc: &[u8]) -> usize
+pub(crate) fn write_secondary_colr(
+    out: &mut [u8],
+    at: usize,
+    color: ColorMetadata,
+    icc: &[u8],
+) -> usize
     requires { ⌜ at + second-colr-size (cicp-of (color .cicp)) (part (color .icc) (now icc)) ≤ length (now out) ⌝ }
     requires { ⌜ second-colr-size (cicp-of (color .cicp)) (part (color .icc) (now icc)) < 4294967296 ⌝ }
     ensures { λ r. ⌜ Boxed (now (out .entry)) at (second-colr-size (cicp-of (color .cicp)) (part (color .icc) (now (icc .entry)))) (optional "colr" (second-colr (cicp-of (color .cicp)) (part (color .icc) (now (icc .entry))))) (now (out .exit)) r ⌝ }
@@ -126,7 +131,7 @@ fn write_stated_colr(out: &mut [u8], at: usize, color: ColorMetadata, icc: &[u8]
 }
 
 // An alternate colour, where there is one.
-pub fn write_alternate_colr(
+pub(crate) fn write_alternate_colr(
     out: &mut [u8],
     at: usize,
     alternate: MaybeColorMetadata,

@@ -76,7 +76,7 @@ fn write_tone_properties(
 }
 
 // The properties of a gain map, where there is one; w, h and depth are the tone map's.
-pub fn write_ipco(
+pub(crate) fn write_ipco(
     out: &mut [u8],
     at: usize,
     gain: MaybeGainMap,

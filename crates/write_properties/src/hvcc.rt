@@ -9,7 +9,7 @@ use octets::size_of;
 use octets::write_box;
 
 // hvcC: a decoder configuration record.
-pub fn write_hvcc(out: &mut [u8], at: usize, hvcc: &[u8]) -> usize
+pub(crate) fn write_hvcc(out: &mut [u8], at: usize, hvcc: &[u8]) -> usize
     requires { ⌜ at + hvcC-size (now hvcc) ≤ length (now out) ⌝ }
     requires { ⌜ hvcC-size (now hvcc) < 4294967296 ⌝ }
     ensures { λ r. ⌜ Boxed (now (out .entry)) at (hvcC-size (now (hvcc .entry))) (hvcC (now (hvcc .entry)) ∷ []) (now (out .exit)) r ⌝ }

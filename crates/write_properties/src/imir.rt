@@ -19,7 +19,7 @@ fn axis_byte(axis: bool) -> u8
 }
 
 // imir, where there is a mirror.
-pub fn write_imir(out: &mut [u8], at: usize, axis: ImirAxis) -> usize
+pub(crate) fn write_imir(out: &mut [u8], at: usize, axis: ImirAxis) -> usize
     requires { ⌜ at + imir-size (maybe-axis axis) ≤ length (now out) ⌝ }
     ensures { λ r. ⌜ Boxed (now (out .entry)) at (imir-size (maybe-axis axis)) (optional "imir" (imir-payload (maybe-axis axis))) (now (out .exit)) r ⌝ }
 {

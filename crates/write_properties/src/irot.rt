@@ -8,7 +8,7 @@ use octets::w8;
 use octets::write_box;
 
 // irot, where there is a turn.
-pub fn write_irot(out: &mut [u8], at: usize, steps: u8) -> usize
+pub(crate) fn write_irot(out: &mut [u8], at: usize, steps: u8) -> usize
     requires { ⌜ at + irot-size steps ≤ length (now out) ⌝ }
     ensures { λ r. ⌜ Boxed (now (out .entry)) at (irot-size steps) (optional "irot" (irot-payload steps)) (now (out .exit)) r ⌝ }
 {

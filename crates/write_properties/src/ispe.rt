@@ -8,7 +8,7 @@ use octets::w32;
 use octets::write_fullbox;
 
 // ispe: a picture's width and height.
-pub fn write_ispe(out: &mut [u8], at: usize, w: u32, h: u32) -> usize
+pub(crate) fn write_ispe(out: &mut [u8], at: usize, w: u32, h: u32) -> usize
     requires { ⌜ at + ispe-size ≤ length (now out) ⌝ }
     ensures { λ r. ⌜ Boxed (now (out .entry)) at ispe-size (ispe w h ∷ []) (now (out .exit)) r ⌝ }
 {

@@ -8,7 +8,7 @@ use octets::w8;
 use octets::write_fullbox;
 
 // pixi of three channels.
-pub fn write_pixi_color(out: &mut [u8], at: usize, bits: u8) -> usize
+pub(crate) fn write_pixi_color(out: &mut [u8], at: usize, bits: u8) -> usize
     requires { ⌜ at + pixi-size 3 ≤ length (now out) ⌝ }
     ensures { λ r. ⌜ Boxed (now (out .entry)) at (pixi-size 3) (pixi 3 bits ∷ []) (now (out .exit)) r ⌝ }
 {
@@ -20,7 +20,7 @@ pub fn write_pixi_color(out: &mut [u8], at: usize, bits: u8) -> usize
 }
 
 // pixi of one channel.
-pub fn write_pixi_mono(out: &mut [u8], at: usize, bits: u8) -> usize
+pub(crate) fn write_pixi_mono(out: &mut [u8], at: usize, bits: u8) -> usize
     requires { ⌜ at + pixi-size 1 ≤ length (now out) ⌝ }
     ensures { λ r. ⌜ Boxed (now (out .entry)) at (pixi-size 1) (pixi 1 bits ∷ []) (now (out .exit)) r ⌝ }
 {

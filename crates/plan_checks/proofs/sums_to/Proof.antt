@@ -7,7 +7,8 @@ use lib.ListN.{length, drop}
 use borrow.Author.Needs.{needs}
 use borrow.Author.Tests.{ne-eqb}
 use Rattle.octets.specs.Numbers.{total}
-use Rattle.plan_checks.proofs.Tests.{total-step, total-none}
+use Rattle.octets.proofs.Lists.{total-left}
+use Rattle.plan_checks.proofs.Tests.{total-none}
 use Rattle.plan_checks.proofs.sums_to.Statement.{statement}
 use Rattle.plan_checks.proofs.sums_to.Tie as tie
 
@@ -24,13 +25,13 @@ cast-n c =
 returns : tie.Need-returns Inv-loop μ-loop
 returns c =
     let start = c .before .before .before .before in
-    let h : start .args .sum < total (start .args .lengths .now) = omega (arith, total-step (start .args .lengths .now) (c .before .before .before .loop .i) (c .before .before .loop-test .taken)) in
+    let h : start .args .sum < total (start .args .lengths .now) = omega (arith, total-left (start .args .lengths .now) (c .before .before .before .loop .i) (c .before .before .loop-test .taken)) in
     sym (ne-eqb (total (start .args .lengths .now)) (start .args .sum) (λ (e : total (start .args .lengths .now) ≡ start .args .sum). omega arith))
 
 loop-again : tie.Need-loop-again Inv-loop μ-loop
 loop-again c =
     let start = c .before .before .before .before in
-    omega (arith, total-step (start .args .lengths .now) (c .before .before .before .loop .i) (c .before .before .loop-test .taken))
+    omega (arith, total-left (start .args .lengths .now) (c .before .before .before .loop .i) (c .before .before .loop-test .taken))
 
 returns-2 : tie.Need-returns-2 Inv-loop μ-loop
 returns-2 c =

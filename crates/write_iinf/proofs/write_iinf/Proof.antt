@@ -1,29 +1,27 @@
 -- The head, the count, the entries of both pictures, the Exif's and the gain map's.
 use mathlib.Core.Path.{_≡_, refl, sym, ap, _∙_}
 use mathlib.Core.Bool.{cond}
-use mathlib.Core.List.{[]}
 use Prim.Native.Nat.{ℕ, _+_, _*_}
 use native.Mathlib.Omega.{arith}
 use borrow.Author.Needs.{needs}
 use Rattle.octets.specs.Numbers.{be}
-use Rattle.octets.proofs.Lists.{cond-mul, pictures-joined}
+use Rattle.octets.proofs.Lists.{cond-mul}
 use Rattle.octets.proofs.Stores.{_▹_, kept, told, retold, _▸_}
 use Rattle.panel.specs.Form.{Form, form-of}
 use Rattle.panel.specs.declared.Shape.{Shape}
-use Rattle.heif.specs.Items.{colour-grid, alpha-grid, alpha-tile}
-use Rattle.heif.specs.Iinf.{infe, tile-infes, iinf-size, infe-size}
+use Rattle.heif.specs.Iinf.{infe-size, iinf-size}
 use Rattle.heif.proofs.Iinf.{length-infes}
 use Rattle.write_ids.proofs.Forms.{raised}
 use Rattle.write_iinf.proofs.write_iinf.Statement.{statement}
 use Rattle.write_iinf.proofs.write_iinf.Tie as tie
 
 size-of : (f : Form) (s : Shape)
-    → 12 + (f .count + ((infe-size f * s .tiles + (infe-size f)) + ((infe-size f * s .tiles + (infe-size f)) + (cond (s .exif) (infe-size f + 0) 0 + (cond (s .gain) (2 * infe-size f + 20) 0 + cond (s .tone) (infe-size f) 0))))) ≡ 8 + iinf-size f s
+    → 12 + (f .count + ((infe-size f * s .tiles + infe-size f) + ((infe-size f * s .tiles + infe-size f) + (cond (s .exif) (infe-size f + 0) 0 + (cond (s .gain) (2 * infe-size f + 20) 0 + cond (s .tone) (infe-size f) 0))))) ≡ 8 + iinf-size f s
 size-of f s =
     omega (
       arith,
       cond-mul (s .exif) (infe-size f + 0),
-      ap (λ (n : ℕ). n * (infe-size f)) (cond-mul (s .gain) 2),
+      ap (λ (n : ℕ). n * infe-size f) (cond-mul (s .gain) 2),
       cond-mul (s .gain) 20,
       cond-mul (s .gain) (2 * infe-size f + 20),
       cond-mul (s .tone) (infe-size f),
@@ -72,7 +70,7 @@ returns c =
     let f = form-of (start .args .form) in
     let s = start .args .s in
     let exif = rw (c6 .exif-id .ensures) at (c7 .write-given-infe .ensures) in
-    let body = retold ((c4 .write-color-infes .ensures) ▸ (c5 .write-alpha-infes .ensures) ▸ exif ▸ (c8 .write-iinf .ensures)) (pictures-joined (tile-infes f 1 (s .tiles)) (tile-infes f (alpha-tile s) (s .tiles)) _ (infe f 0 (colour-grid s) "grid" []) (infe f 0 (alpha-grid s) "grid" [])) refl in
+    let body = (c4 .write-color-infes .ensures) ▸ (c5 .write-alpha-infes .ensures) ▸ exif ▸ (c8 .write-iinf .ensures) in
     let count = told (c3 .write-count .ensures) (ap (be (f .count)) ((c2 .last-id .ensures) .0 ∙ sym (length-infes f s))) refl in
     retold (raised "iinf" _ 0 (c1 .write-item-box .ensures) (count ▹ body .wrote) (start .pre .1 .1 ∙ sym (size-of f s))) refl (size-of f s)
 

@@ -47,7 +47,7 @@ returns c =
     let c1 = c2 .before .before .before .before in
     let start = c1 .before .before .before .before .before in
     let f = form-of (start .args .form) in
-    let long : 14 + f .count + ((entry-size f * length (start .args .color-lengths .now) + (entry-size f)) + ((entry-size f * length (start .args .alpha-lengths .now) + (entry-size f)) + (cond (start .args .s .exif) (entry-size f) 0 + (cond (start .args .s .gain) (2 * entry-size f) 0 + cond (start .args .s .tone) (entry-size f) 0)))) ≡ 8 + iloc-size (form-of (start .args .form)) (start .args .s)
+    let long : 14 + f .count + ((entry-size f * length (start .args .color-lengths .now) + entry-size f) + ((entry-size f * length (start .args .alpha-lengths .now) + entry-size f) + (cond (start .args .s .exif) (entry-size f) 0 + (cond (start .args .s .gain) (2 * entry-size f) 0 + cond (start .args .s .tone) (entry-size f) 0)))) ≡ 8 + iloc-size (form-of (start .args .form)) (start .args .s)
     = omega (arith, ap (λ (n : ℕ). entry-size (form-of (start .args .form)) * n) (start .pre .1 .1 .1 .0), ap (λ (n : ℕ). entry-size (form-of (start .args .form)) * n) (start .pre .1 .1 .1 .1 .0), iloc-long (form-of (start .args .form)) (start .args .s)) in
     record { wrote = told ((c1 .write-iloc-head .ensures) ▹ (c2 .write-color-locations .ensures) ▹ (c3 .write-alpha-locations .ensures) ▹ (c4 .write-other-locations .ensures)) (iloc-joined (form-of (start .args .form)) (start .args .s) (start .args .size) (start .args .descriptor) (start .args .offsets .color) (start .args .offsets .alpha) (start .args .offsets .other) (start .args .color-lengths .now) (start .args .alpha-lengths .now) (other-sizes (start .args .s) (start .args .exif) (start .args .gain)) (start .pre .1 .1 .1 .0) (start .pre .1 .1 .1 .1 .0) (length-other-sizes (start .args .s) (start .args .exif) (start .args .gain)) (start .pre .1 .1 .0)) long }
 

@@ -1,7 +1,7 @@
 -- Each turn writes one entry more.
 use mathlib.Core.Path.{refl, sym}
 use mathlib.Core.List.{List, [], _∷_}
-use Prim.Native.Nat.{ℕ, _+_}
+use Prim.Native.Nat.{ℕ}
 use native.Mathlib.Omega.{arith}
 use Rattle.octets.specs.Boxes.{boxes}
 use Rattle.octets.proofs.Stores.{told}

@@ -6,12 +6,13 @@ use native.Mathlib.Omega.{arith}
 use lib.ListN.{length, drop}
 use lib.Seq.{drop-length}
 use Rattle.octets.specs.Numbers.{total}
+use Rattle.octets.proofs.Lists.{total-left}
 use Rattle.octets.proofs.Stores.{Owes, owes, turn, paid}
 use Rattle.panel.specs.Form.{Form, form-of}
 use Rattle.heif.specs.Iloc.{entry, located, entry-size}
 use Rattle.write_ids.proofs.Loops.{mul-all, mul-left, mul-none}
 use Rattle.write_iloc.specs.Spans.{spans}
-use Rattle.write_iloc.proofs.Spans.{total-left, entries-step}
+use Rattle.write_iloc.proofs.Spans.{entries-step}
 use Rattle.write_iloc.proofs.location.write_tile_locations.Statement.{statement}
 use Rattle.write_iloc.proofs.location.write_tile_locations.Tie as tie
 
