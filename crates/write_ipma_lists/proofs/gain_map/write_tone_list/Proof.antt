@@ -11,7 +11,7 @@ use Rattle.write_ipma_lists.proofs.gain_map.write_tone_list.Tie as tie
 write-runs-requires : tie.Need-write-runs-requires
 write-runs-requires c κs =
     let start = c .before .before .before .before .before .before in
-    (omega (arith, start .pre .0, length-tone-list (start .args .y)), (start .pre .1 .tone .ispe, (start .pre .1 .tone .pixi, start .pre .1 .tone .colr)))
+    (omega (arith, start .pre .0, length-tone-list (start .args .y)), search (start .pre .1 .tone))
 
 returns : tie.Need-returns
 unfolding its-of

@@ -11,20 +11,20 @@ use Rattle.write_ipma_lists.proofs.grid.write_alpha_grid_list.Tie as ti
 write-runs-requires : tie.Need-write-runs-requires
 write-runs-requires c κs =
     let start = c .before .before .before .before .before .before .before .before .before .before in
-    (omega (arith, start .pre .0, length-alpha-grid-list (start .args .y)), (start .pre .1 .color .full, (start .pre .1 .alpha .pixi, start .pre .1 .alpha .auxc)))
+    (omega (arith, start .pre .0, length-alpha-grid-list (start .args .y)), search (start .pre .1 .color, start .pre .1 .alpha, start .pre .1 .options))
 
 write-run-requires : tie.Need-write-run-requires
 write-run-requires c κs =
     let c1 = c .before .before .before in
     let start = c1 .before .before .before .before .before .before .before .before .before .before .before in
-    (omega (arith, start .pre .0, length-alpha-grid-list (start .args .y), (c1 .write-runs .ensures) .end, kept (c1 .write-runs .ensures)), start .pre .1 .options .irot)
+    (omega (arith, start .pre .0, length-alpha-grid-list (start .args .y), (c1 .write-runs .ensures) .end, kept (c1 .write-runs .ensures)), search (start .pre .1 .color, start .pre .1 .alpha, start .pre .1 .options))
 
 write-run-requires-2 : tie.Need-write-run-requires-2
 write-run-requires-2 c κs =
     let c2 = c .before .before .before in
     let c1 = c2 .before .before .before .before in
     let start = c1 .before .before .before .before .before .before .before .before .before .before .before in
-    (omega (arith, start .pre .0, length-alpha-grid-list (start .args .y), (c1 .write-runs .ensures) .end, kept (c1 .write-runs .ensures), (c2 .write-run .ensures) .end, kept (c2 .write-run .ensures)), start .pre .1 .options .imir)
+    (omega (arith, start .pre .0, length-alpha-grid-list (start .args .y), (c1 .write-runs .ensures) .end, kept (c1 .write-runs .ensures), (c2 .write-run .ensures) .end, kept (c2 .write-run .ensures)), search (start .pre .1 .color, start .pre .1 .alpha, start .pre .1 .options))
 
 returns : tie.Need-returns
 unfolding its-of

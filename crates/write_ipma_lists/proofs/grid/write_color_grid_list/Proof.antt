@@ -11,20 +11,20 @@ use Rattle.write_ipma_lists.proofs.grid.write_color_grid_list.Tie as ti
 write-run-requires : tie.Need-write-run-requires
 write-run-requires c κs =
     let start = c .before .before .before .before .before .before .before .before .before .before .before in
-    (omega (arith, start .pre .0, length-colour-grid-list (start .args .y)), start .pre .1 .color .full)
+    (omega (arith, start .pre .0, length-colour-grid-list (start .args .y)), search (start .pre .1 .color, start .pre .1 .options))
 
 write-run-requires-2 : tie.Need-write-run-requires-2
 write-run-requires-2 c κs =
     let c1 = c .before .before .before in
     let start = c1 .before .before .before .before .before .before .before .before .before .before .before .before in
-    (omega (arith, start .pre .0, length-colour-grid-list (start .args .y), (c1 .write-run .ensures) .end, kept (c1 .write-run .ensures)), start .pre .1 .color .colr)
+    (omega (arith, start .pre .0, length-colour-grid-list (start .args .y), (c1 .write-run .ensures) .end, kept (c1 .write-run .ensures)), search (start .pre .1 .color, start .pre .1 .options))
 
 write-runs-requires : tie.Need-write-runs-requires
 write-runs-requires c κs =
     let c2 = c .before .before .before in
     let c1 = c2 .before .before .before .before in
     let start = c1 .before .before .before .before .before .before .before .before .before .before .before .before in
-    (omega (arith, start .pre .0, length-colour-grid-list (start .args .y), (c1 .write-run .ensures) .end, kept (c1 .write-run .ensures), (c2 .write-run2 .ensures) .end, kept (c2 .write-run2 .ensures)), (start .pre .1 .color .pixi, (start .pre .1 .options .colr, start .pre .1 .options .clli)))
+    (omega (arith, start .pre .0, length-colour-grid-list (start .args .y), (c1 .write-run .ensures) .end, kept (c1 .write-run .ensures), (c2 .write-run2 .ensures) .end, kept (c2 .write-run2 .ensures)), search (start .pre .1 .color, start .pre .1 .options))
 
 write-run-requires-3 : tie.Need-write-run-requires-3
 write-run-requires-3 c κs =
@@ -32,7 +32,7 @@ write-run-requires-3 c κs =
     let c2 = c3 .before .before .before .before in
     let c1 = c2 .before .before .before .before in
     let start = c1 .before .before .before .before .before .before .before .before .before .before .before .before in
-    (omega (arith, start .pre .0, length-colour-grid-list (start .args .y), (c1 .write-run .ensures) .end, kept (c1 .write-run .ensures), (c2 .write-run2 .ensures) .end, kept (c2 .write-run2 .ensures), (c3 .write-runs .ensures) .end, kept (c3 .write-runs .ensures)), start .pre .1 .options .irot)
+    (omega (arith, start .pre .0, length-colour-grid-list (start .args .y), (c1 .write-run .ensures) .end, kept (c1 .write-run .ensures), (c2 .write-run2 .ensures) .end, kept (c2 .write-run2 .ensures), (c3 .write-runs .ensures) .end, kept (c3 .write-runs .ensures)), search (start .pre .1 .color, start .pre .1 .options))
 
 write-run-requires-4 : tie.Need-write-run-requires-4
 write-run-requires-4 c κs =
@@ -41,7 +41,7 @@ write-run-requires-4 c κs =
     let c2 = c3 .before .before .before .before in
     let c1 = c2 .before .before .before .before in
     let start = c1 .before .before .before .before .before .before .before .before .before .before .before .before in
-    (omega (arith, start .pre .0, length-colour-grid-list (start .args .y), (c1 .write-run .ensures) .end, kept (c1 .write-run .ensures), (c2 .write-run2 .ensures) .end, kept (c2 .write-run2 .ensures), (c3 .write-runs .ensures) .end, kept (c3 .write-runs .ensures), (c4 .write-run3 .ensures) .end, kept (c4 .write-run3 .ensures)), start .pre .1 .options .imir)
+    (omega (arith, start .pre .0, length-colour-grid-list (start .args .y), (c1 .write-run .ensures) .end, kept (c1 .write-run .ensures), (c2 .write-run2 .ensures) .end, kept (c2 .write-run2 .ensures), (c3 .write-runs .ensures) .end, kept (c3 .write-runs .ensures), (c4 .write-run3 .ensures) .end, kept (c4 .write-run3 .ensures)), search (start .pre .1 .color, start .pre .1 .options))
 
 returns : tie.Need-returns
 unfolding its-of
