@@ -13,11 +13,11 @@ use Rattle.panel.specs.declared.metadata.ContentLightLevel.{ContentLightLevel}
 use Rattle.panel.proofs.Parts.{some-inj, none-some}
 use Rattle.heif.specs.Clli.{clli-payload, clli-size}
 
-pub light-inj : (a b : Option ContentLightLevel) → Of Light-fits a → Of Light-fits b → clli-payload a ≡ clli-payload b → a ≡ b
-light-inj none none ha hb e = refl
-light-inj none (some y) ha hb e = absurd (none-some e)
-light-inj (some x) none ha hb e = absurd (none-some (sym e))
-light-inj (some x) (some y) ha hb e =
+pub clli-inj : (a b : Option ContentLightLevel) → Of Light-fits a → Of Light-fits b → clli-payload a ≡ clli-payload b → a ≡ b
+clli-inj none none ha hb e = refl
+clli-inj none (some y) ha hb e = absurd (none-some e)
+clli-inj (some x) none ha hb e = absurd (none-some (sym e))
+clli-inj (some x) (some y) ha hb e =
     let c = cancel-be 2 (ha .content) (hb .content) (some-inj e) in
     let a = cancel-be 2 {x = []} {y = []} (ha .average) (hb .average) (c .1) in
     λ i. some (record { «max_content_light_level» = c .0 i; «max_pic_average_light_level» = a .0 i })

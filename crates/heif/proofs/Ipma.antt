@@ -16,16 +16,17 @@ use Rattle.panel.specs.Form.{Form}
 use Rattle.panel.specs.Parts.{has, given}
 use Rattle.panel.specs.declared.Shape.{Shape}
 use Rattle.panel.proofs.Parts.{length-optional}
-use Rattle.heif.specs.Items.{shape, ids-from, colour-grid, alpha-tile, alpha-grid, gain-id}
+use Rattle.heif.specs.Items.{shape, ids-from, colour-grid, alpha-tile, alpha-grid, gain-id, tone-id}
 use Rattle.heif.specs.Ipco
 use Rattle.heif.specs.Ipco.{Role, tone-slots, slots}
 use Rattle.heif.specs.Ipma.{positions, Association, _with_, each, turns, colour-tile-list, colour-grid-list, alpha-tile-list, alpha-grid-list}
 use Rattle.heif.specs.Ipma.{image-list, tone-list, colour-associations, alpha-associations, gain-associations, associations, association, ipma}
-use Rattle.heif.specs.Ipma.{turn-count, associated-items, gain-association-count, association-count, ipma-size}
+use Rattle.heif.specs.Ipma.{association-size, turn-count, associated-items, gain-association-count, association-count, ipma-size}
 use Rattle.heif.specs.Colr.{second-colr-count, alternates-count}
 use Rattle.heif.proofs.Items.{length-ids-from, length-given}
 use Rattle.heif.proofs.Colr.{length-second-colr, length-alternates}
 use Rattle.heif.proofs.Clli.{length-clli}
+use Rattle.panel.proofs.Agreement.{with-gain}
 
 -- whatever positions the roles have
 pub length-associations : (s : Shape) (its : Role → List ℕ) → length (associations s its) ≡ associated-items s
@@ -59,11 +60,6 @@ width-tone : (id at : ℕ) (size depth : Box) (t : Option (List ℕ)) (a : Optio
     total (map width (given (has t) ((id with its Ipco.ispe-tone ‖ its Ipco.pixi-tone ‖ its Ipco.colr-tone) ∷ []))) ≡ cond (has t) (2 + alternates-count a) 0
 width-tone id at size depth none a = refl
 width-tone id at size depth (some t) a = simp (length-ids-from, length-alternates) (omega arith)
-
--- a panel with this gain map instead; with its own it is the panel again
-abbrev with-gain : Panel → Option Gain → Panel
-with-gain p g =
-    record { dims = p .dims; depth = p .depth; tiles = p .tiles; alpha = p .alpha; colour = p .colour; metadata = p .metadata; gain = g }
 
 width-gain : (p : Panel) (g : Option Gain)
     → let q = with-gain p g in
@@ -99,19 +95,19 @@ length-ipma f p =
 
 -- ---- the entries of each picture and of the gain map, whatever positions they name
 
-length-association : (f : Form) (id : ℕ) (l : List ℕ) → length (association f (id with l)) ≡ f .id + 1 + length l
+length-association : (f : Form) (id : ℕ) (l : List ℕ) → length (association f (id with l)) ≡ association-size f (length l)
 length-association f id l = simp (length-append, length-be) (omega arith)
 
-length-each : (f : Form) (first n : ℕ) (l : List ℕ) → length (flatMap (association f) (each first n l)) ≡ (f .id + 1 + length l) * n
+length-each : (f : Form) (first n : ℕ) (l : List ℕ) → length (flatMap (association f) (each first n l)) ≡ association-size f (length l) * n
 length-each f first n l =
     ap length (flatMap-map (association f) (λ id. id with l) (ids-from first n))
-    ∙ length-flatMap (λ id. association f (id with l)) (f .id + 1 + length l) (λ id. length-association f id l) (ids-from first n)
-    ∙ ap (λ (m : ℕ). m * (f .id + 1 + length l)) (length-ids-from first n)
-    ∙ mul-comm n (f .id + 1 + length l)
+    ∙ length-flatMap (λ id. association f (id with l)) (association-size f (length l)) (λ id. length-association f id l) (ids-from first n)
+    ∙ ap (λ (m : ℕ). m * association-size f (length l)) (length-ids-from first n)
+    ∙ mul-comm n (association-size f (length l))
 
 -- the tiles and the grid of a picture
 pub length-picture : (f : Form) (first n id : ℕ) (l m : List ℕ)
-    → length (flatMap (association f) (each first n l ‖ (id with m) ∷ [])) ≡ (f .id + 1 + length l) * n + (f .id + 1 + length m)
+    → length (flatMap (association f) (each first n l ‖ (id with m) ∷ [])) ≡ association-size f (length l) * n + association-size f (length m)
 length-picture f first n id l m =
     ap length (flatMap-append (association f) (each first n l) ((id with m) ∷ []) ∙ ap (λ (r : List ℕ). flatMap (association f) (each first n l) ++ r) (flatMap-one (association f) (id with m)))
     ∙ length-append (flatMap (association f) (each first n l)) (association f (id with m))
@@ -119,18 +115,18 @@ length-picture f first n id l m =
 
 -- an entry that is there only if so
 length-given-entry : (f : Form) (b : Bool) (id : ℕ) (l : List ℕ)
-    → length (flatMap (association f) (given b ((id with l) ∷ []))) ≡ cond b (f .id + 1 + length l) 0
+    → length (flatMap (association f) (given b ((id with l) ∷ []))) ≡ cond b (association-size f (length l)) 0
 unfolding flatMap
 length-given-entry f true id l = ap length (flatMap-one (association f) (id with l)) ∙ length-association f id l
 length-given-entry f false id l = refl
 
 pub length-gain-entries : (f : Form) (s : Shape) (its : Role → List ℕ)
     → length (flatMap (association f) (gain-associations s its))
-    ≡ cond (s .gain) (f .id + 1 + length (image-list its)) 0 + cond (s .tone) (f .id + 1 + length (tone-list its)) 0
+    ≡ cond (s .gain) (association-size f (length (image-list its))) 0 + cond (s .tone) (association-size f (length (tone-list its))) 0
 length-gain-entries f s its =
-    ap length (flatMap-append (association f) (given (s .gain) ((gain-id s with image-list its) ∷ [])) (given (s .tone) ((gain-id s + 2 with tone-list its) ∷ [])))
-    ∙ length-append (flatMap (association f) (given (s .gain) ((gain-id s with image-list its) ∷ []))) (flatMap (association f) (given (s .tone) ((gain-id s + 2 with tone-list its) ∷ [])))
-    ∙ (λ i. length-given-entry f (s .gain) (gain-id s) (image-list its) i + length-given-entry f (s .tone) (gain-id s + 2) (tone-list its) i)
+    ap length (flatMap-append (association f) (given (s .gain) ((gain-id s with image-list its) ∷ [])) (given (s .tone) ((tone-id s with tone-list its) ∷ [])))
+    ∙ length-append (flatMap (association f) (given (s .gain) ((gain-id s with image-list its) ∷ []))) (flatMap (association f) (given (s .tone) ((tone-id s with tone-list its) ∷ [])))
+    ∙ (λ i. length-given-entry f (s .gain) (gain-id s) (image-list its) i + length-given-entry f (s .tone) (tone-id s) (tone-list its) i)
 
 -- the entries of all items, piece by piece
 pub entries-joined : (f : Form) (s : Shape) (its : Role → List ℕ)

@@ -4,6 +4,7 @@ use Prim.Native.String.{String}
 use Rattle.octets.specs.Numbers.{_‖_, be, text}
 use Rattle.octets.specs.Boxes.{Box, full}
 
+-- the type of an auxiliary picture, and a zero byte
 abbrev pub auxC : String → Box
 auxC urn = full "auxC" 0 0 (text urn ‖ be 1 0)
 

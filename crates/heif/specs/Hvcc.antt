@@ -6,6 +6,7 @@ use lib.Dec.{eqb}
 use lib.ListN.{length, getD}
 use Rattle.octets.specs.Boxes.{Box, box}
 
+-- the record as it is given
 abbrev pub hvcC : List ℕ → Box
 hvcC hvcc = box "hvcC" hvcc
 

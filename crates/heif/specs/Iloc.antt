@@ -1,4 +1,5 @@
 -- 14496-12, 8.11.3: item location box.
+use mathlib.Core.Bool.{cond}
 use mathlib.Core.List.{List, [], _∷_, flatMap}
 use Prim.Native.Nat.{ℕ, suc, _+_, _*_}
 use lib.ListN.{take, drop, length}
@@ -56,6 +57,10 @@ iloc f l = full "iloc" (1 + f .step) 0 (be 1 0x44 ‖ be 1 0x00 ‖ be (f .count
 
 abbrev pub entry-size : Form → ℕ
 entry-size f = 14 + f .id
+
+-- of the gain map's items
+abbrev pub gain-entries-size : Form → Shape → ℕ
+gain-entries-size f s = cond (s .gain) (2 * entry-size f) 0 + cond (s .tone) (entry-size f) 0
 
 abbrev pub iloc-size : Form → Shape → ℕ
 iloc-size f s = 6 + f .count + last-id s * entry-size f

@@ -8,6 +8,7 @@ use Rattle.panel.specs.Types.{imir-axis}
 use Rattle.panel.specs.Parts.{has}
 use Rattle.panel.specs.declared.metadata.Orientation.{Orientation}
 
+-- the axis of the mirror; no mirror is no property
 abbrev pub imir-payload : Option Bool → Option (List ℕ)
 imir-payload none = none
 imir-payload (some axis) = some (be 1 (cond axis 1 0))

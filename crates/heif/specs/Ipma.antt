@@ -7,16 +7,17 @@ use lib.ListN.{length}
 use Rattle.octets.specs.Numbers.{_‖_, be}
 use Rattle.octets.specs.Boxes.{Box, full}
 use Rattle.panel.specs.Form.{Form}
-use Rattle.panel.specs.Parts.{given, has}
+use Rattle.panel.specs.Parts.{given}
 use Rattle.panel.specs.Panel.{Gain, Panel}
 use Rattle.panel.specs.declared.Shape.{Shape}
 use Rattle.panel.specs.declared.metadata.Orientation.{Orientation}
-use Rattle.heif.specs.Items.{ids-from, colour-grid, alpha-tile, alpha-grid, gain-id, shape}
+use Rattle.heif.specs.Items.{ids-from, colour-grid, alpha-tile, alpha-grid, gain-id, shape, tone-id}
 use Rattle.heif.specs.Ipco
 use Rattle.heif.specs.Ipco.{gain-property-count}
 use Rattle.heif.specs.Colr.{second-colr-count}
 use Rattle.heif.specs.Irot.{irot-count}
 use Rattle.heif.specs.Imir.{imir-count}
+use Rattle.heif.specs.Clli.{clli-count}
 
 -- the positions of a role's boxes, counted along the properties from `at` on
 abbrev pub positions : ℕ → List (Ipco.Role × List Box) → Ipco.Role → List ℕ
@@ -73,7 +74,7 @@ abbrev pub alpha-associations : Shape → (Ipco.Role → List ℕ) → List Asso
 alpha-associations s its = each (alpha-tile s) (s .tiles) (alpha-tile-list its) ‖ (alpha-grid s with alpha-grid-list its) ∷ []
 
 abbrev pub gain-associations : Shape → (Ipco.Role → List ℕ) → List Association
-gain-associations s its = given (s .gain) ((gain-id s with image-list its) ∷ []) ‖ given (s .tone) ((gain-id s + 2 with tone-list its) ∷ [])
+gain-associations s its = given (s .gain) ((gain-id s with image-list its) ∷ []) ‖ given (s .tone) ((tone-id s with tone-list its) ∷ [])
 
 abbrev pub associations : Shape → (Ipco.Role → List ℕ) → List Association
 associations s its = colour-associations s its ‖ alpha-associations s its ‖ gain-associations s its
@@ -87,6 +88,10 @@ ipma f l = full "ipma" (f .step) 0 (be 4 (length l) ‖ flatMap (association f) 
 
 -- ---- how many bytes its body has: the items that it names, and what each is associated with
 
+-- of an entry with k associations
+abbrev pub association-size : Form → ℕ → ℕ
+association-size f k = f .id + 1 + k
+
 -- how many transforms an orientation has
 abbrev pub turn-count : Orientation → ℕ
 turn-count o = irot-count o + imir-count o
@@ -97,15 +102,15 @@ associated-items s = 2 * s .tiles + 2 + cond (s .gain) 1 0 + cond (s .tone) 1 0
 
 -- what the gain image and the tone map are associated with: the gain map's properties, and so many transforms
 abbrev pub gain-association-count : ℕ → Option Gain → ℕ
-gain-association-count turns none = 0
-gain-association-count turns (some g) = turns + gain-property-count (some g)
+gain-association-count t none = 0
+gain-association-count t (some g) = t + gain-property-count (some g)
 
 -- a colour tile has three, an alpha tile two; each grid has three and the transforms, and the colour grid what is present of the second colr and clli
 abbrev pub association-count : Panel → ℕ
 association-count p =
-    let turns = turn-count (p .metadata .orientation) in
-    5 * shape p .tiles + (3 + second-colr-count (p .colour .cicp) (p .colour .icc) + cond (has (p .metadata .light)) 1 0 + turns) + (3 + turns)
-    + gain-association-count turns (p .gain)
+    let t = turn-count (p .metadata .orientation) in
+    5 * shape p .tiles + (3 + second-colr-count (p .colour .cicp) (p .colour .icc) + clli-count (p .metadata .light) + t) + (3 + t)
+    + gain-association-count t (p .gain)
 
 abbrev pub ipma-size : Form → Panel → ℕ
 ipma-size f p = 8 + associated-items (shape p) * (1 + f .id) + association-count p

@@ -9,7 +9,7 @@ use Rattle.octets.specs.Boxes.{Box, box, full, boxes}
 use Rattle.panel.specs.Form.{Form}
 use Rattle.panel.specs.Parts.{given}
 use Rattle.panel.specs.declared.Shape.{Shape}
-use Rattle.heif.specs.Items.{ids-from, colour-grid, alpha-tile, alpha-grid, exif-id, gain-id}
+use Rattle.heif.specs.Items.{ids-from, colour-grid, alpha-tile, alpha-grid, exif-id, gain-id, xmp-id, tone-id}
 
 -- from one item to others; their count takes 16 bits in every form
 abbrev pub reference : Form → String → ℕ → List ℕ → Box
@@ -18,8 +18,8 @@ reference f type from to = box type (be (f .id) from ‖ be 2 (length to) ‖ fl
 -- the gain image is auxiliary to the colour grid, its XMP describes it, and the tone map derives from both
 abbrev pub gain-references : Form → Shape → List Box
 gain-references f s =
-    given (s .gain) (reference f "auxl" (gain-id s) (colour-grid s ∷ []) ∷ reference f "cdsc" (gain-id s + 1) (gain-id s ∷ []) ∷ [])
-    ‖ given (s .tone) (reference f "dimg" (gain-id s + 2) (colour-grid s ∷ gain-id s ∷ []) ∷ [])
+    given (s .gain) (reference f "auxl" (gain-id s) (colour-grid s ∷ []) ∷ reference f "cdsc" (xmp-id s) (gain-id s ∷ []) ∷ [])
+    ‖ given (s .tone) (reference f "dimg" (tone-id s) (colour-grid s ∷ gain-id s ∷ []) ∷ [])
 
 -- each grid derives from its tiles, the alpha grid is auxiliary to the colour grid, and the Exif describes that
 abbrev pub references : Form → Shape → List Box

@@ -8,13 +8,13 @@ use Rattle.panel.specs.Types.{irot-steps}
 use Rattle.panel.specs.Parts.{has}
 use Rattle.panel.specs.declared.metadata.Orientation.{Orientation}
 
+-- quarter turns anticlockwise; no turn is no property
 abbrev pub irot-payload : ℕ → Option (List ℕ)
 irot-payload zero = none
 irot-payload (suc k) = some (be 1 (suc k))
 
 -- ---- how many there are, and how many bytes they have, as whole boxes
 
--- the transforms of an orientation, and how many bytes each takes
 abbrev pub irot-count : Orientation → ℕ
 irot-count o = cond (has (irot-payload (irot-steps o))) 1 0
 

@@ -8,6 +8,7 @@ use Rattle.panel.specs.Types.{irot-steps}
 use Rattle.panel.specs.declared.GridDims.{GridDims}
 use Rattle.panel.specs.declared.metadata.Orientation.{Orientation}
 
+-- width and height
 abbrev pub ispe : ℕ → ℕ → Box
 ispe w h = full "ispe" 0 0 (be 4 w ‖ be 4 h)
 

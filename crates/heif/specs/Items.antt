@@ -35,8 +35,18 @@ exif-id s = alpha-grid s + 1
 abbrev pub gain-id : Shape → ℕ
 gain-id s = exif-id s + cond (s .exif) 1 0
 
+-- of the gain image's XMP, and of the tone map
+abbrev pub xmp-id : Shape → ℕ
+xmp-id s = gain-id s + 1
+
+abbrev pub tone-id : Shape → ℕ
+tone-id s = gain-id s + 2
+
+-- which is how many items there are
 abbrev pub last-id : Shape → ℕ
 last-id s = alpha-grid s + cond (s .exif) 1 0 + cond (s .gain) 2 0 + cond (s .tone) 1 0
+
+-- ---- panels whose lists and lengths add up
 
 -- both pictures have as many tiles, and the lengths of the samples sum to what is lent
 pub record Even (p : Panel) : Type 0 where

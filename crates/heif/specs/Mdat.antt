@@ -16,7 +16,7 @@ abbrev pub samples : List ℕ → List ℕ → List (List ℕ)
 samples [] bytes = []
 samples (n ∷ l) bytes = take n bytes ∷ samples l (drop n bytes)
 
--- 23008-12, annex A: the offset of the TIFF header, which is 0, then the Exif bytes
+-- the offset of the TIFF header, which is 0, then the Exif bytes
 abbrev pub exif-payload : Option (List ℕ) → List (List ℕ)
 exif-payload none = []
 exif-payload (some e) = (be 4 0 ‖ e) ∷ []
@@ -35,6 +35,7 @@ payloads p =
     ‖ samples (p .alpha .lengths) (p .alpha .bytes)
     ‖ other-payloads p
 
+-- the payloads back to back
 abbrev pub mdat : Panel → Box
 mdat p = box "mdat" (flatten (payloads p))
 

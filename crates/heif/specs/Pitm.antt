@@ -6,6 +6,7 @@ use Rattle.panel.specs.Form.{Form}
 use Rattle.panel.specs.declared.Shape.{Shape}
 use Rattle.heif.specs.Items.{colour-grid}
 
+-- the colour grid
 abbrev pub pitm : Form → Shape → Box
 pitm f s = full "pitm" (f .step) 0 (be (f .id) (colour-grid s))
 

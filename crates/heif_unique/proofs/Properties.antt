@@ -24,7 +24,7 @@ use Rattle.heif.specs.Ispe.{tone-ispe}
 use Rattle.heif.specs.Ipco.{tone-slots, gain-slots, held, properties}
 use Rattle.heif.proofs.Colr.{nclx-inj, colour-inj, alternates-inj}
 use Rattle.heif.proofs.Imir.{orientation-inj}
-use Rattle.heif.proofs.Clli.{light-inj}
+use Rattle.heif.proofs.Clli.{clli-inj}
 use Rattle.heif.proofs.Ispe.{ispe-inj}
 
 -- the depth of a pixi's first channel, of the box at n
@@ -132,6 +132,6 @@ same-fields p q fp fq e =
       depth = bits-inj (p .depth) (q .depth) (ap (depth-at 4) e);
       colour = colour-inj (p .colour .cicp) (q .colour .cicp) (p .colour .icc) (q .colour .icc) (ap (body-at 3) e) (at 0);
       orientation = orientation-inj (p .metadata .orientation) (q .metadata .orientation) (at 1) (at 2);
-      light = light-inj (p .metadata .light) (q .metadata .light) (fp .light) (fq .light) (at 3);
+      light = clli-inj (p .metadata .light) (q .metadata .light) (fp .light) (fq .light) (at 3);
       gain = a .1;
     }

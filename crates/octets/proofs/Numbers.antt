@@ -1,11 +1,11 @@
--- Laws of `be`, all over the width k: 8, 16 and 32 bits are k = 1, 2 and 4.
-use mathlib.Core.Path.{_≡_, refl, sym, ap, _∙_}
+-- Laws of `be`, all over the width k: 8, 16 and 32 bits are k = 1, 2 and 4; and the width of a product.
+use mathlib.Core.Path.{_≡_, refl, sym, ap, _∙_, subst⁻¹}
 use mathlib.Core.List.{List, [], _∷_, _++_}
 use Prim.Native.Nat.{ℕ, zero, suc, _+_, _*_, _/_, _%_, _^_, _<_}
-use native.Mathlib.Nat.{mod-eq-of-lt, zero-add, suc-add}
+use native.Mathlib.Nat.{mod-eq-of-lt, zero-add, suc-add, le-of-lt, lt-of-le-of-lt, mul-le-mul-left, mul-lt-mul-of-pos-right}
 use native.Mathlib.Omega.{arith}
 use lib.ListN.{length}
-use lib.Pow.{mod-pow-add, mod-mod-pow, shr-shr, field}
+use lib.Pow.{mod-pow-add, mod-mod-pow, shr-shr, field, pow-pos, pow-add}
 use Rattle.octets.specs.Numbers.{_‖_, be, value}
 use Rattle.octets.proofs.Lists.{cancel}
 
@@ -71,3 +71,11 @@ value-mod (suc k) n =
 
 pub value-be : (k n : ℕ) → n < 2 ^ (8 * k) → value (be k n) ≡ n
 value-be k n h = value-mod k n ∙ mod-eq-of-lt h
+
+-- ---- products
+
+-- the product of two numbers of k bits has at most k + k
+pub below : (k : ℕ) {a b : ℕ} → a < 2 ^ k → b < 2 ^ k → a * b < 2 ^ (k + k)
+below k {a} {b} ha hb =
+    subst⁻¹ (λ (n : ℕ). a * b < n) (pow-add 2 k k)
+    (lt-of-le-of-lt (mul-le-mul-left a (le-of-lt hb)) (mul-lt-mul-of-pos-right ha (pow-pos k)))

@@ -12,6 +12,10 @@ use Rattle.panel.specs.declared.color.Cicp.{Cicp}
 abbrev pub put : Panel → Colour → Option Gain → Panel
 put p c g = record { dims = p .dims; depth = p .depth; tiles = p .tiles; alpha = p .alpha; colour = c; metadata = p .metadata; gain = g }
 
+-- p with another gain map alone; with its own it is the panel again
+abbrev pub with-gain : Panel → Option Gain → Panel
+with-gain p g = put p (p .colour) g
+
 -- g with another tone map and another alternate colour
 abbrev pub alter : Gain → Option (List ℕ) → Option Colour → Gain
 alter g t a =

@@ -1,5 +1,5 @@
--- The byte parts that are lent beside the numbers of a panel: all of them, or those that one box is made from.
-use mathlib.Core.List.{List, []}
+-- The byte parts that are lent beside the numbers of a panel.
+use mathlib.Core.List.{List}
 use Prim.Native.Nat.{ℕ}
 use Rattle.panel.specs.Panel.{Tiles}
 
@@ -16,7 +16,7 @@ pub record Lent : Type 0 where
   pub alternate-icc : List ℕ
 
 -- in the order of a call's parameters
-abbrev in-order : List ℕ → List ℕ → List ℕ → List ℕ → List ℕ → List ℕ → List ℕ → List ℕ → List ℕ → List ℕ → List ℕ → List ℕ → List ℕ → Lent
+abbrev pub in-order : List ℕ → List ℕ → List ℕ → List ℕ → List ℕ → List ℕ → List ℕ → List ℕ → List ℕ → List ℕ → List ℕ → List ℕ → List ℕ → Lent
 in-order color-hvcc alpha-hvcc color-lengths alpha-lengths color-samples alpha-samples icc exif gain-hvcc gain-sample gain-xmp gain-tmap alternate-icc =
     record {
       tiles = record { hvcc = color-hvcc; lengths = color-lengths; bytes = color-samples };
@@ -34,11 +34,3 @@ in-order color-hvcc alpha-hvcc color-lengths alpha-lengths color-samples alpha-s
 unfoldable pub lent : List ℕ → List ℕ → List ℕ → List ℕ → List ℕ → List ℕ → List ℕ → List ℕ → List ℕ → List ℕ → List ℕ → List ℕ → List ℕ → Lent
 lent color-hvcc alpha-hvcc color-lengths alpha-lengths color-samples alpha-samples icc exif gain-hvcc gain-sample gain-xmp gain-tmap alternate-icc =
     in-order color-hvcc alpha-hvcc color-lengths alpha-lengths color-samples alpha-samples icc exif gain-hvcc gain-sample gain-xmp gain-tmap alternate-icc
-
--- those of ipco alone: the two decoder configuration records, the profile, the gain map's record and its alternate profile
-abbrev pub lent-props : List ℕ → List ℕ → List ℕ → List ℕ → List ℕ → Lent
-lent-props color-hvcc alpha-hvcc icc gain-hvcc alternate-icc = in-order color-hvcc alpha-hvcc [] [] [] [] icc [] gain-hvcc [] [] [] alternate-icc
-
--- those of the gain map alone
-abbrev pub lent-gain : List ℕ → List ℕ → List ℕ → List ℕ → List ℕ → Lent
-lent-gain hvcc sample xmp tmap icc = in-order [] [] [] [] [] [] [] [] hvcc sample xmp tmap icc

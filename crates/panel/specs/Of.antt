@@ -1,9 +1,9 @@
 -- The panel that the code's struct of numbers and the byte parts lent beside it stand for.
 use mathlib.Core.Option.{Option, none, some}
-use mathlib.Core.List.{List, []}
+use mathlib.Core.List.{List}
 use Prim.Native.Nat.{ℕ}
 use Rattle.panel.specs.Panel.{Colour, Gain, Panel}
-use Rattle.panel.specs.Lent.{Lent, lent-gain}
+use Rattle.panel.specs.Lent.{Lent}
 use Rattle.panel.specs.declared.color.Cicp.{Cicp}
 use Rattle.panel.specs.declared.part.Part.{Part}
 use Rattle.panel.specs.declared.part.Part.the-variants.{Absent, Present}
@@ -66,11 +66,3 @@ panel-of n l =
       metadata = record { orientation = m .orientation; light = light-of (m .«content_light_level»); exif = part (m .exif) (l .exif) };
       gain = gain-of (n .«gain_map») l;
     }
-
--- a gain map with those of its bytes that are in ipco: its decoder configuration record and its alternate profile
-abbrev pub with-properties : MaybeGainMap → List ℕ → List ℕ → Option Gain
-with-properties g hvcc icc = gain-of g (lent-gain hvcc [] [] [] icc)
-
--- and with those that are in mdat: its sample, its XMP and its tone map
-abbrev pub with-payloads : MaybeGainMap → List ℕ → List ℕ → List ℕ → Option Gain
-with-payloads g sample xmp tmap = gain-of g (lent-gain [] sample xmp tmap [])

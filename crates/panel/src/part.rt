@@ -1,4 +1,4 @@
-// Parts that may be absent.
+// Parts that may be absent, and numbers that count only if so.
 ghost use mathlib.Core.Path.{_≡_};
 ghost use mathlib.Core.Bool.{cond};
 ghost use Prim.Native.Nat.{_≤_};

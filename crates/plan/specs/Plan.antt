@@ -14,7 +14,8 @@ use Rattle.heif.specs.Items.{shape}
 use Rattle.heif.specs.File.{file}
 use Rattle.heif.specs.Refusal.{bad-grid, bad-counts, bad-sum, bad-items, refusal}
 use Rattle.heif.specs.Answer.{length-answer}
-use Rattle.plan_runs.specs.Roles.{Placed, Narrow-places}
+use Rattle.plan_runs.specs.Roles.{Narrow-places}
+use Rattle.plan_positions.specs.Placed.{Placed}
 use Rattle.plan_layout.specs.Laid.{Laid}
 use Rattle.plan.specs.declared.Checked.{Checked}
 use Rattle.plan.specs.declared.Checked.the-variants as C

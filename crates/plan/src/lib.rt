@@ -29,7 +29,7 @@ use plan_sizes::lengths::gain_lengths;
 use plan_sizes::lengths::lengths_of;
 use plan_sizes::sizes_of;
 
-// What a file is made from: its length, where each of its boxes lies, and the places of its properties.
+// What a file is made from: its length, its layout, and the places of its properties.
 pub struct FilePlan {
     pub length: u64,
     pub layout: Layout,

@@ -1,12 +1,10 @@
 -- What the code's tests and loops say of the definitions' tests.
-use mathlib.Core.Path.{_≡_, refl, sym, ap, _∙_, subst⁻¹}
+use mathlib.Core.Path.{_≡_, refl, sym, ap, _∙_}
 use mathlib.Core.Bool.{Bool, true, false}
 use mathlib.Core.List.{List, _∷_}
-use Prim.Native.Nat.{ℕ, _+_, _*_, _^_, _<_, _≤_}
-use native.Mathlib.Nat.{le-of-lt, lt-of-le-of-lt, mul-le-mul-left, mul-lt-mul-of-pos-right}
+use Prim.Native.Nat.{ℕ, _≤_}
 use lib.Dec.{eqb}
 use lib.ListN.{length, drop, drop-of-length-le}
-use lib.Pow.{pow-pos, pow-add}
 use borrow.Author.Tests.{eqb-true, not-false}
 use Rattle.octets.specs.Numbers.{total}
 use Rattle.heif.specs.Refusal.{Check, first, differ}
@@ -34,13 +32,7 @@ passed {k} {c} {l} s n = go (c .holds tt) refl
 pub same : (m n : ℕ) → differ m n ≡ false → m ≡ n
 same m n e = eqb-true m n (not-false (eqb m n) e)
 
--- ---- sums and products
+-- ---- sums
 
 pub total-none : (l : List ℕ) (i : ℕ) → length l ≤ i → total (drop i l) ≡ 0
 total-none l i h = ap total (drop-of-length-le l h)
-
--- the product of two numbers of k bits has at most k + k
-pub below : (k : ℕ) {a b : ℕ} → a < 2 ^ k → b < 2 ^ k → a * b < 2 ^ (k + k)
-below k {a} {b} ha hb =
-    subst⁻¹ (λ (n : ℕ). a * b < n) (pow-add 2 k k)
-    (lt-of-le-of-lt (mul-le-mul-left a (le-of-lt hb)) (mul-lt-mul-of-pos-right ha (pow-pos k)))

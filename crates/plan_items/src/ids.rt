@@ -1,7 +1,7 @@
 // The items' ids, by the shape of the file.
 ghost use mathlib.Core.Path.{_≡_};
 ghost use Prim.Native.Nat.{_+_, _*_, _≤_, _<_};
-ghost use Rattle.heif.specs.Items.{colour-grid, alpha-tile, alpha-grid, exif-id, gain-id, last-id};
+ghost use Rattle.heif.specs.Items.{colour-grid, alpha-tile, alpha-grid, exif-id, gain-id, last-id, xmp-id, tone-id};
 ghost use Rattle.plan_items.specs.Items.{Shaped};
 use panel::Shape;
 use panel::WideItemId;
@@ -48,7 +48,7 @@ pub fn gain_id(s: Shape) -> WideItemId
 // The id of its XMP.
 pub fn xmp_id(s: Shape) -> WideItemId
     requires { ⌜ Shaped s ⌝ }
-    ensures { λ r. ⌜ r .0 ≡ gain-id s + 1 ⌝ }
+    ensures { λ r. ⌜ r .0 ≡ xmp-id s ⌝ }
 {
     WideItemId(2 * s.tiles + 4 + when(s.exif, 1))
 }
@@ -56,7 +56,7 @@ pub fn xmp_id(s: Shape) -> WideItemId
 // The tone map's id, where it is present.
 pub fn tmap_id(s: Shape) -> WideItemId
     requires { ⌜ Shaped s ⌝ }
-    ensures { λ r. ⌜ r .0 ≡ gain-id s + 2 ⌝ }
+    ensures { λ r. ⌜ r .0 ≡ tone-id s ⌝ }
     ensures { λ r. ⌜ r .0 < 4294967295 ⌝ }
 {
     WideItemId(2 * s.tiles + 5 + when(s.exif, 1))

@@ -1,4 +1,5 @@
-// The items of a file: which there are and their ids, and what is asked of them before anything is written.
+// What a file is made of, before its numbers are worked out: its items and their ids, what its form, its grid and its records decide, and
+// the lengths of the gain map's payloads.
 
 pub mod brands;
 pub mod form;

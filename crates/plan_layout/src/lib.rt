@@ -1,4 +1,4 @@
-// Where each box of a file lies and where the payloads begin, from the sizes of the boxes; and the length of the file.
+// The layout of a file: the whole size of each box and where the payloads begin; and the length of the file.
 ghost use Rattle.heif.specs.File.{size};
 ghost use Rattle.plan_sizes.specs.Capped.{Capped};
 ghost use Rattle.plan_sizes.specs.Sized.{Sized, Small};
@@ -7,7 +7,7 @@ use panel::Shape;
 use plan_items::payloads::PayloadLengths;
 use plan_sizes::Sizes;
 
-// Where each box of a file lies: which items it has, the length of a grid's descriptor, the whole size of each box, the offsets where the
+// What a file is laid out by: which items it has, the length of a grid's descriptor, the whole size of each box, the offsets where the
 // colour samples, the alpha samples and the payloads behind them begin, how many bytes these payloads have, and whether the records are of
 // the range extensions' profile.
 pub struct Layout {

@@ -19,7 +19,8 @@ use Rattle.heif.proofs.Items.{length-ids-from}
 use Rattle.heif.proofs.Colr.{length-second-colr, length-alternates}
 use Rattle.heif.proofs.Clli.{length-clli}
 use Rattle.plan_runs.proofs.Runs.{length-places}
-use Rattle.plan_runs.specs.Roles.{its-of, Placed}
+use Rattle.plan_runs.specs.Roles.{its-of}
+use Rattle.plan_positions.specs.Placed.{Placed}
 use Rattle.plan_runs.specs.declared.Places.{Places}
 use Rattle.plan_positions.proofs.Roles.{in-all, alternate-boxes}
 

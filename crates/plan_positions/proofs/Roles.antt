@@ -23,6 +23,7 @@ use Rattle.heif.specs.Ispe.{tone-ispe}
 use Rattle.heif.specs.Ipma.{positions}
 use Rattle.heif.proofs.Colr.{length-second-colr, length-alternates}
 use Rattle.heif.proofs.Clli.{length-clli}
+use Rattle.panel.proofs.Agreement.{with-gain}
 use Rattle.plan_runs.specs.GainMap.{Narrow-image, Narrow-tone, image-at, tone-at, behind-image}
 use Rattle.plan_runs.specs.Pictures.{colour-at, alpha-at, options-at, Narrow-colour, Narrow-alpha, Narrow-options}
 use Rattle.plan_runs.specs.declared.gain_map.ImagePlaces.{ImagePlaces}
@@ -31,7 +32,8 @@ use Rattle.plan_runs.specs.declared.pictures.ColorPlaces.{ColorPlaces}
 use Rattle.plan_runs.specs.declared.pictures.AlphaPlaces.{AlphaPlaces}
 use Rattle.plan_runs.specs.declared.pictures.OptionPlaces.{OptionPlaces}
 use Rattle.plan_positions.specs.Gain.{toned-alternates}
-use Rattle.plan_runs.specs.Roles.{its-of, Placed}
+use Rattle.plan_runs.specs.Roles.{its-of}
+use Rattle.plan_positions.specs.Placed.{Placed}
 use Rattle.plan_runs.specs.declared.Places.{Places}
 
 -- all places, with c second colr, r irot, m imir, l clli, g boxes of each kind of the gain image, t of the tone map, and a alternate colours
@@ -76,11 +78,6 @@ module _ (n : ℕ) (size depth : Box) where
   colr-toned (some t) a = refl
 
 -- ---- all roles
-
--- a panel with this gain map instead; with its own it is the panel again
-abbrev with-gain : Panel → Option Gain → Panel
-with-gain p g =
-    record { dims = p .dims; depth = p .depth; tiles = p .tiles; alpha = p .alpha; colour = p .colour; metadata = p .metadata; gain = g }
 
 in-role : (p : Panel) (g : Option Gain) (r : Ipco.Role)
     → its-of (laid (second-colrs p) (irots p) (imirs p) (cllis p) (cond (has g) 1 0) (cond (has (tone-of g)) 1 0) (alternate-boxes g)) r ≡ positions 1 (Ipco.slots (with-gain p g)) r

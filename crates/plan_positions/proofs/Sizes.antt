@@ -8,7 +8,8 @@ use Rattle.heif.specs.Items.{shape}
 use Rattle.heif.specs.Ipco.{slots}
 use Rattle.heif.specs.Ipma.{Association, positions, associations, ipma, ipma-size}
 use Rattle.heif.proofs.Ipma.{length-ipma}
-use Rattle.plan_runs.specs.Roles.{its-of, Placed}
+use Rattle.plan_runs.specs.Roles.{its-of}
+use Rattle.plan_positions.specs.Placed.{Placed}
 use Rattle.plan_runs.specs.declared.Places.{Places}
 
 pub associated-alike : (p : Panel) (z : Places) → Placed p z → associations (shape p) (its-of z) ≡ associations (shape p) (positions 1 (slots p))

@@ -8,6 +8,7 @@ ghost use Rattle.panel.specs.Parts.{has};
 ghost use Rattle.heif.specs.Colr.{second-colr-count, alternates-count};
 ghost use Rattle.heif.specs.Irot.{irot-count};
 ghost use Rattle.heif.specs.Imir.{imir-count};
+ghost use Rattle.heif.specs.Clli.{clli-count};
 use panel::color::ColorMetadata;
 use panel::color::MaybeCicp;
 use panel::color::MaybeColorMetadata;
@@ -52,8 +53,8 @@ pub(crate) fn imir_count(o: Orientation) -> u32
 }
 
 // How many clli.
-pub(crate) fn light_count(light: MaybeLightLevel) -> u32
-    ensures { λ r. ⌜ r ≡ cond (has (light-of light)) 1 0 ⌝ }
+pub(crate) fn clli_count(light: MaybeLightLevel) -> u32
+    ensures { λ r. ⌜ r ≡ clli-count (light-of light) ⌝ }
     ensures { λ r. ⌜ r ≤ 1 ⌝ }
 {
     match light {

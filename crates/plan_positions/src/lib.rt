@@ -15,14 +15,16 @@ ghost use Rattle.heif.specs.Items.{shape};
 ghost use Rattle.heif.specs.Colr.{second-colr-count, alternates-count};
 ghost use Rattle.heif.specs.Irot.{irot-count};
 ghost use Rattle.heif.specs.Imir.{imir-count};
+ghost use Rattle.heif.specs.Clli.{clli-count};
 ghost use Rattle.plan_runs.specs.Pictures.{options-at, Narrow-options};
 ghost use Rattle.plan_runs.specs.GainMap.{Narrow-image, Narrow-tone};
 ghost use Rattle.plan_positions.specs.Gain.{toned-alternates, gain-at, behind-gain};
-ghost use Rattle.plan_runs.specs.Roles.{Placed, Narrow-places};
+ghost use Rattle.plan_runs.specs.Roles.{Narrow-places};
+ghost use Rattle.plan_positions.specs.Placed.{Placed};
 use crate::counts::alternate_count;
+use crate::counts::clli_count;
 use crate::counts::imir_count;
 use crate::counts::irot_count;
-use crate::counts::light_count;
 use crate::counts::secondary_colr_count;
 use crate::gain::PlacedGain;
 use crate::gain::gain_from;
@@ -69,7 +71,7 @@ fn gain_alternates(gain: MaybeGainMap) -> u32
 // The places of the panel's properties that may be absent.
 fn panel_options(panel: Panel, positions: Positions) -> PlacedOptions
     requires { ⌜ positions .next .0 + 4 ≤ 127 ⌝ }
-    ensures { λ r. ⌜ ((x : List ℕ) → (r .places ≡ options-at (positions .next .0) (second-colr-count (cicp-of (panel .«color_meta» .cicp)) (part (panel .«color_meta» .icc) x)) (irot-count (panel .metadata .orientation)) (imir-count (panel .metadata .orientation)) (cond (has (light-of (panel .metadata .«content_light_level»))) 1 0)) × (r .positions .next .0 ≡ positions .next .0 + second-colr-count (cicp-of (panel .«color_meta» .cicp)) (part (panel .«color_meta» .icc) x) + irot-count (panel .metadata .orientation) + imir-count (panel .metadata .orientation) + cond (has (light-of (panel .metadata .«content_light_level»))) 1 0)) ⌝ }
+    ensures { λ r. ⌜ ((x : List ℕ) → (r .places ≡ options-at (positions .next .0) (second-colr-count (cicp-of (panel .«color_meta» .cicp)) (part (panel .«color_meta» .icc) x)) (irot-count (panel .metadata .orientation)) (imir-count (panel .metadata .orientation)) (clli-count (light-of (panel .metadata .«content_light_level»)))) × (r .positions .next .0 ≡ positions .next .0 + second-colr-count (cicp-of (panel .«color_meta» .cicp)) (part (panel .«color_meta» .icc) x) + irot-count (panel .metadata .orientation) + imir-count (panel .metadata .orientation) + clli-count (light-of (panel .metadata .«content_light_level»)))) ⌝ }
     ensures { λ r. ⌜ Narrow-options (r .places) ⌝ }
     ensures { λ r. ⌜ r .positions .next .0 ≤ positions .next .0 + 4 ⌝ }
 {
@@ -80,7 +82,7 @@ fn panel_options(panel: Panel, positions: Positions) -> PlacedOptions
     let colr = secondary_colr_count(color);
     let irot = irot_count(o);
     let imir = imir_count(o);
-    let clli = light_count(light);
+    let clli = clli_count(light);
     option_places(positions, colr as u8, irot as u8, imir as u8, clli as u8)
 }
 

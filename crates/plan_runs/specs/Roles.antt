@@ -1,11 +1,7 @@
 -- The positions of each role, as the code's places have them.
-use mathlib.Core.Path.{_≡_}
 use mathlib.Core.List.{List}
 use Prim.Native.Nat.{ℕ, _≤_}
-use lib.ListN.{length}
-use Rattle.panel.specs.Panel.{Panel}
 use Rattle.heif.specs.Ipco
-use Rattle.heif.specs.Ipma.{positions}
 use Rattle.plan_runs.specs.Runs.{places}
 use Rattle.plan_runs.specs.Pictures.{Narrow-colour, Narrow-alpha, Narrow-options}
 use Rattle.plan_runs.specs.GainMap.{Narrow-image, Narrow-tone}
@@ -32,11 +28,6 @@ its-of y Ipco.colr-gain = places (y .image .colr)
 its-of y Ipco.ispe-tone = places (y .tone .ispe)
 its-of y Ipco.pixi-tone = places (y .tone .pixi)
 its-of y Ipco.colr-tone = places (y .tone .colr)
-
--- they are the definition's, of a panel, and so is how many properties there are
-pub record Placed (p : Panel) (y : Places) : Type 0 where
-  pub count : y .count ≡ length (Ipco.properties p)
-  pub role : (r : Ipco.Role) → its-of y r ≡ positions 1 (Ipco.slots p) r
 
 -- each leaves the highest bit free
 pub record Narrow-places (y : Places) : Type 0 where

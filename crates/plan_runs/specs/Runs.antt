@@ -4,6 +4,7 @@ use Prim.Native.Nat.{ℕ, _+_, _≤_}
 use Rattle.heif.specs.Items.{ids-from}
 use Rattle.plan_runs.specs.declared.Run.{Run}
 
+-- one after the other
 abbrev pub places : Run → List ℕ
 places r = ids-from (r .first .0) (r .count)
 

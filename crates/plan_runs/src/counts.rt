@@ -6,7 +6,7 @@ ghost use Rattle.heif.specs.Ipma.{colour-tile-list, colour-grid-list, alpha-til
 ghost use Rattle.plan_runs.specs.Roles.{its-of, Narrow-places};
 use crate::Places;
 
-// A colour tile.
+// How many associations a colour tile has.
 pub fn color_tile_count(y: Places) -> u8
     requires { ⌜ Narrow-places y ⌝ }
     ensures { λ r. ⌜ r ≡ length (colour-tile-list (its-of y)) ⌝ }
@@ -19,7 +19,7 @@ pub fn color_tile_count(y: Places) -> u8
     hvcc.count + (tile.count + colr.count)
 }
 
-// The colour grid.
+// How many associations the colour grid has.
 pub fn color_grid_count(y: Places) -> u8
     requires { ⌜ Narrow-places y ⌝ }
     ensures { λ r. ⌜ r ≡ length (colour-grid-list (its-of y)) ⌝ }
@@ -38,7 +38,7 @@ pub fn color_grid_count(y: Places) -> u8
         + (colr.count + (pixi.count + (second.count + (clli.count + (irot.count + imir.count)))))
 }
 
-// An alpha tile.
+// How many associations an alpha tile has.
 pub fn alpha_tile_count(y: Places) -> u8
     requires { ⌜ Narrow-places y ⌝ }
     ensures { λ r. ⌜ r ≡ length (alpha-tile-list (its-of y)) ⌝ }
@@ -51,7 +51,7 @@ pub fn alpha_tile_count(y: Places) -> u8
     hvcc.count + tile.count
 }
 
-// The alpha grid.
+// How many associations the alpha grid has.
 pub fn alpha_grid_count(y: Places) -> u8
     requires { ⌜ Narrow-places y ⌝ }
     ensures { λ r. ⌜ r ≡ length (alpha-grid-list (its-of y)) ⌝ }
@@ -68,7 +68,7 @@ pub fn alpha_grid_count(y: Places) -> u8
     full.count + (pixi.count + (auxc.count + (irot.count + imir.count)))
 }
 
-// The gain image.
+// How many associations the gain image has.
 pub fn image_count(y: Places) -> u8
     requires { ⌜ Narrow-places y ⌝ }
     ensures { λ r. ⌜ r ≡ length (image-list (its-of y)) ⌝ }
@@ -86,7 +86,7 @@ pub fn image_count(y: Places) -> u8
         + (ispe.count + (pixi.count + (auxc.count + (colr.count + (irot.count + imir.count)))))
 }
 
-// The tone map.
+// How many associations the tone map has.
 pub fn tone_count(y: Places) -> u8
     requires { ⌜ Narrow-places y ⌝ }
     ensures { λ r. ⌜ r ≡ length (tone-list (its-of y)) ⌝ }

@@ -1,4 +1,4 @@
-// Runs of property positions, by value: the record that runs through all properties, and the runs of each picture.
+// Runs of property positions, by value: the record that runs through all properties, the runs of each picture, and how many each item names.
 
 pub mod counts;
 pub mod gain_map;

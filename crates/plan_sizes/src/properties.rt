@@ -10,7 +10,7 @@ ghost use Rattle.panel.specs.Parts.{has, long};
 ghost use Rattle.heif.specs.Colr.{first-colr-size, second-colr-count, second-colr-size, alternates-count, stated-size, alternates-size};
 ghost use Rattle.heif.specs.Ipco.{gain-property-count, tone-properties-size, gain-properties-size, ipco-size};
 ghost use Rattle.plan_runs.specs.Pictures.{Narrow-options};
-ghost use Rattle.plan_runs.specs.Roles.{Placed};
+ghost use Rattle.plan_positions.specs.Placed.{Placed};
 ghost use Rattle.plan_sizes.specs.Capped.{Capped, Length-of, Measured};
 use crate::lengths::Lengths;
 use panel::Panel;
@@ -27,7 +27,7 @@ use plan_runs::pictures::OptionPlaces;
 // ---- what the properties hold, beside the eight bytes that head each of them: a colr 11 bytes by code points, 4 and the profile by ICC
 
 // irot, imir and clli.
-fn turns_and_light_size(o: OptionPlaces) -> u32
+fn turns_and_clli_size(o: OptionPlaces) -> u32
     requires { ⌜ Narrow-options o ⌝ }
     ensures { λ r. ⌜ r ≡ o .irot .count + o .imir .count + 4 * o .clli .count ⌝ }
     ensures { λ r. ⌜ r ≤ 12 ⌝ }
@@ -158,6 +158,6 @@ pub(crate) fn ipco_size(panel: Panel, z: Places, y: Lengths) -> u64
         + y.alpha_hvcc as u64
         + colr_size(color, y.icc)
         + secondary_colr_size(color, y.icc)
-        + turns_and_light_size(options) as u64
+        + turns_and_clli_size(options) as u64
         + gain_properties_size(gain, g.hvcc, g.icc)
 }

@@ -1,19 +1,15 @@
 -- The panel of a sheet that is read, by its sections.
 use mathlib.Core.Path.{_≡_, refl}
-use mathlib.Core.Option.{Option}
 use mathlib.Core.List.{List}
 use Prim.Native.Nat.{ℕ}
 use lib.ListN.{take}
-use Rattle.panel.specs.Panel.{Gain, Panel}
 use Rattle.panel.specs.Of.{colour-of, gain-of, panel-of}
 use Rattle.panel.specs.declared.gain_map.MaybeGainMap.{MaybeGainMap}
 use Rattle.panel.specs.declared.gain_map.MaybeGainMap.the-variants as G
+use Rattle.panel.proofs.Agreement.{with-gain}
 use Rattle.sheet_fields.specs.Cursor.{span-of}
 use Rattle.sheet.specs.Said.{pictures-of, metadata-of, maybe-gain-said, lent-said, panel-said}
 use Rattle.sheet.specs.declared.SheetRead.{SheetRead}
-
-abbrev with-gain : Panel → Option Gain → Panel
-with-gain p g = record { dims = p .dims; depth = p .depth; tiles = p .tiles; alpha = p .alpha; colour = p .colour; metadata = p .metadata; gain = g }
 
 gain-alike : (s : List ℕ) (r : SheetRead) (cl al : List ℕ) (m : MaybeGainMap) → maybe-gain-said s (r .gain) m ≡ gain-of m (lent-said s r cl al)
 gain-alike s r cl al G.None = refl

@@ -8,12 +8,13 @@ use Rattle.octets.specs.Numbers.{_‖_, total}
 use Rattle.octets.specs.Boxes.{box}
 use Rattle.octets.proofs.Lists.{flatten-append}
 use Rattle.panel.specs.Lent.{Lent}
-use Rattle.panel.specs.Of.{part, gain-of, panel-of, with-payloads}
+use Rattle.panel.specs.Of.{part, gain-of, panel-of}
 use Rattle.panel.specs.declared.Panel.{Panel as Numbers}
 use Rattle.panel.specs.declared.gain_map.MaybeGainMap.{MaybeGainMap}
 use Rattle.panel.specs.declared.gain_map.MaybeGainMap.the-variants as G
 use Rattle.heif.specs.Mdat.{exif-payload, gain-payloads, mdat, exif-size, gain-data-size, mdat-size}
 use Rattle.heif.proofs.Mdat.{flatten-samples, cut}
+use Rattle.heif.specs.Lent.{with-payloads}
 
 -- what it holds of a gain map, and how much that is
 same-payloads : (g : MaybeGainMap) (l : Lent) → gain-payloads (with-payloads g (l .gain-sample) (l .gain-xmp) (l .gain-tmap)) ≡ gain-payloads (gain-of g l)

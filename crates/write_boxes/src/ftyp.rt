@@ -7,7 +7,6 @@ ghost use lib.ListN.{length};
 ghost use Rattle.octets.specs.Numbers.{_‖_, be, text};
 ghost use Rattle.octets.specs.Stores.{Wrote, Boxed};
 ghost use Rattle.panel.specs.Parts.{given};
-ghost use Rattle.heif.specs.Hvcc.{rext};
 ghost use Rattle.heif.specs.Ftyp.{ftyp, ftyp-size, brand};
 use octets::put;
 use octets::w32;

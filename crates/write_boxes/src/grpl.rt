@@ -27,8 +27,8 @@ fn write_altr(out: &mut [u8], at: usize, tone: WideItemId, grid: WideItemId) -> 
     w32(out, d, grid.0)
 }
 
-// grpl: one group.
-fn write_grpl(out: &mut [u8], at: usize, tone: WideItemId, grid: WideItemId) -> usize
+// The box with its one group.
+fn write_group_box(out: &mut [u8], at: usize, tone: WideItemId, grid: WideItemId) -> usize
     requires { ⌜ at + (8 + altr-size) ≤ length (now out) ⌝ }
     requires { ⌜ tone .0 < 4294967295 ⌝ }
     ensures { λ r. ⌜ Boxed (now (out .entry)) at (8 + altr-size) (box "grpl" (boxes (altr (tone .0) (grid .0) ∷ [])) ∷ []) (now (out .exit)) r ⌝ }
@@ -38,7 +38,7 @@ fn write_grpl(out: &mut [u8], at: usize, tone: WideItemId, grid: WideItemId) -> 
 }
 
 // grpl, where there is a tone map.
-pub fn write_groups(out: &mut [u8], at: usize, s: Shape) -> usize
+pub fn write_grpl(out: &mut [u8], at: usize, s: Shape) -> usize
     requires { ⌜ at + grpl-size s ≤ length (now out) ⌝ }
     requires { ⌜ Shaped s ⌝ }
     ensures { λ r. ⌜ Boxed (now (out .entry)) at (grpl-size s) (grpl s) (now (out .exit)) r ⌝ }
@@ -46,7 +46,7 @@ pub fn write_groups(out: &mut [u8], at: usize, s: Shape) -> usize
     if s.tone {
         let tone = tmap_id(s);
         let grid = color_grid_id(s);
-        return write_grpl(out, at, tone, grid);
+        return write_group_box(out, at, tone, grid);
     }
     at
 }

@@ -8,8 +8,8 @@ use lib.ListN.{length}
 use Rattle.octets.specs.Numbers.{_‖_, total}
 use Rattle.octets.specs.Boxes.{Box, box, full, boxes}
 use Rattle.panel.specs.Panel.{Tiles, Gain, Panel}
-use Rattle.panel.specs.Lent.{Lent, lent-props}
-use Rattle.panel.specs.Of.{panel-of, part, with-payloads}
+use Rattle.panel.specs.Lent.{Lent}
+use Rattle.panel.specs.Of.{panel-of, part}
 use Rattle.panel.specs.Form.{Form}
 use Rattle.panel.specs.Parts.{given, has, listed, tone-of, long}
 use Rattle.panel.specs.declared.Panel.{Panel as Numbers}
@@ -25,6 +25,7 @@ use Rattle.heif.specs.Meta.{meta}
 use Rattle.heif.specs.File.{data-at, file}
 use Rattle.heif.proofs.Mdat.{flatten-samples, lengths-samples, cut}
 use Rattle.heif.proofs.Iloc.{locations-runs}
+use Rattle.heif.specs.Lent.{lent-props, with-payloads}
 use Rattle.plan_items.specs.Payloads.{payload-lengths}
 use Rattle.plan_runs.specs.Roles.{its-of}
 use Rattle.plan_layout.specs.Laid.{Laid}

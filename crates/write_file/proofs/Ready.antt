@@ -7,8 +7,8 @@ use native.Mathlib.Omega.{arith}
 use lib.ListN.{length}
 use Rattle.octets.specs.Numbers.{total}
 use Rattle.panel.specs.Panel.{Tiles, Panel, Gain}
-use Rattle.panel.specs.Lent.{Lent, lent-props}
-use Rattle.panel.specs.Of.{panel-of, part, with-payloads}
+use Rattle.panel.specs.Lent.{Lent}
+use Rattle.panel.specs.Of.{panel-of, part}
 use Rattle.panel.specs.Form.{Form}
 use Rattle.panel.specs.Parts.{has, tone-of}
 use Rattle.panel.specs.declared.Panel.{Panel as Numbers}
@@ -38,6 +38,7 @@ use Rattle.heif.proofs.Idat.{length-idat}
 use Rattle.heif.proofs.Meta.{length-meta}
 use Rattle.heif.proofs.Mdat.{length-mdat}
 use Rattle.heif.proofs.File.{data-at-size, length-file}
+use Rattle.heif.specs.Lent.{lent-props, with-payloads}
 use Rattle.plan_items.specs.Items.{Shaped}
 use Rattle.plan_items.specs.declared.payloads.PayloadLengths.{PayloadLengths}
 use Rattle.plan_runs.specs.Roles.{its-of}

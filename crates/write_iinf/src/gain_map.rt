@@ -1,10 +1,9 @@
 // The gain map's entries in iinf.
-ghost use mathlib.Core.Bool.{cond};
-ghost use Prim.Native.Nat.{_+_, _*_, _≤_};
+ghost use Prim.Native.Nat.{_+_, _≤_};
 ghost use lib.ListN.{length};
 ghost use Rattle.octets.specs.Stores.{Boxed};
 ghost use Rattle.panel.specs.Form.{form-of};
-ghost use Rattle.heif.specs.Iinf.{gain-infes, infe-size};
+ghost use Rattle.heif.specs.Iinf.{gain-infes, gain-infes-size};
 ghost use Rattle.plan_items.specs.Items.{Shaped};
 use crate::infe::write_given_infe;
 use panel::FileForm;
@@ -15,9 +14,9 @@ use plan_items::ids::xmp_id;
 
 // The gain map's entries in iinf: the gain image and its XMP are hidden, the tone map is not.
 pub(crate) fn write_iinf(out: &mut [u8], at: usize, form: FileForm, s: Shape) -> usize
-    requires { ⌜ at + (cond (s .gain) (2 * infe-size (form-of form) + 20) 0 + cond (s .tone) (infe-size (form-of form)) 0) ≤ length (now out) ⌝ }
+    requires { ⌜ at + gain-infes-size (form-of form) s ≤ length (now out) ⌝ }
     requires { ⌜ Shaped s ⌝ }
-    ensures { λ r. ⌜ Boxed (now (out .entry)) at (cond (s .gain) (2 * infe-size (form-of form) + 20) 0 + cond (s .tone) (infe-size (form-of form)) 0) (gain-infes (form-of form) s) (now (out .exit)) r ⌝ }
+    ensures { λ r. ⌜ Boxed (now (out .entry)) at (gain-infes-size (form-of form) s) (gain-infes (form-of form) s) (now (out .exit)) r ⌝ }
 {
     let image = gain_id(s);
     let xmp = xmp_id(s);

@@ -8,14 +8,14 @@ use Rattle.octets.specs.Numbers.{_‖_}
 use Rattle.panel.specs.Form.{Form}
 use Rattle.panel.specs.Parts.{given}
 use Rattle.panel.specs.declared.Shape.{Shape}
-use Rattle.heif.specs.Items.{gain-id}
+use Rattle.heif.specs.Items.{gain-id, tone-id}
 use Rattle.heif.specs.Iloc.{entry, located}
 use Rattle.plan_items.specs.Items.{Shaped}
 use Rattle.write_iloc.specs.Spans.{spans}
 use Rattle.write_iloc.proofs.Spans.{entries-append}
 
 pub tone-behind : (f : Form) (s : Shape) (o a b t : ℕ)
-    → flatMap (entry f) (located (gain-id s) 0 (spans o (a ∷ b ∷ []))) ++ flatMap (entry f) (located (gain-id s + 2) 0 (spans (o + a + b) (given (s .tone) (t ∷ []))))
+    → flatMap (entry f) (located (gain-id s) 0 (spans o (a ∷ b ∷ []))) ++ flatMap (entry f) (located (tone-id s) 0 (spans (o + a + b) (given (s .tone) (t ∷ []))))
     ≡ flatMap (entry f) (located (gain-id s) 0 (spans o ((a ∷ b ∷ []) ‖ given (s .tone) (t ∷ []))))
 tone-behind f s o a b t = entries-append f (gain-id s) o (a ∷ b ∷ []) (given (s .tone) (t ∷ [])) refl (omega arith)
 

@@ -9,7 +9,7 @@ use Rattle.heif.specs.Iloc.{Location, located}
 use Rattle.plan_items.specs.declared.payloads.PayloadLengths.{PayloadLengths}
 use Rattle.write_iloc.specs.Spans.{spans}
 
--- of those that are present
+-- the sizes of the gain map's payloads, of those that are present
 abbrev pub sizes : Shape → PayloadLengths → List ℕ
 sizes s l = given (s .gain) (l .sample ∷ l .xmp ∷ []) ‖ given (s .tone) (l .tmap ∷ [])
 
@@ -17,6 +17,7 @@ sizes s l = given (s .gain) (l .sample ∷ l .xmp ∷ []) ‖ given (s .tone) (l
 abbrev pub other-sizes : Shape → ℕ → PayloadLengths → List ℕ
 other-sizes s e g = given (s .exif) (e ∷ []) ‖ sizes s g
 
+-- n is the length of a descriptor; then where each run begins, and its sizes
 abbrev pub placed : Shape → ℕ → ℕ → ℕ → ℕ → List ℕ → List ℕ → List ℕ → List Location
 placed s n colour alpha other colours alphas others =
     located 1 0 (spans colour colours)

@@ -6,8 +6,8 @@ ghost use lib.ListN.{length};
 ghost use Rattle.octets.specs.Stores.{Wrote};
 ghost use Rattle.panel.specs.Parts.{given};
 ghost use Rattle.panel.specs.Form.{form-of};
-ghost use Rattle.heif.specs.Items.{gain-id};
-ghost use Rattle.heif.specs.Iloc.{entry, located, entry-size};
+ghost use Rattle.heif.specs.Items.{gain-id, tone-id};
+ghost use Rattle.heif.specs.Iloc.{entry, located, entry-size, gain-entries-size};
 ghost use Rattle.plan_items.specs.Items.{Shaped};
 ghost use Rattle.write_iloc.specs.Spans.{spans};
 ghost use Rattle.write_iloc.specs.Locations.{sizes};
@@ -30,7 +30,7 @@ fn write_tone_location(
 ) -> usize
     requires { ⌜ at + cond (s .tone) (entry-size (form-of form)) 0 ≤ length (now out) ⌝ }
     requires { ⌜ Shaped s ⌝ }
-    ensures { λ r. ⌜ Wrote (now (out .entry)) at (cond (s .tone) (entry-size (form-of form)) 0) (flatMap (entry (form-of form)) (located (gain-id s + 2) 0 (spans offset (given (s .tone) (size ∷ []))))) (now (out .exit)) r ⌝ }
+    ensures { λ r. ⌜ Wrote (now (out .entry)) at (cond (s .tone) (entry-size (form-of form)) 0) (flatMap (entry (form-of form)) (located (tone-id s) 0 (spans offset (given (s .tone) (size ∷ []))))) (now (out .exit)) r ⌝ }
 {
     if s.tone {
         let tone = tmap_id(s);
@@ -49,7 +49,7 @@ fn write_image_locations(
     sample: u32,
     xmp: u32,
 ) -> usize
-    requires { ⌜ at + (2 * entry-size (form-of form)) ≤ length (now out) ⌝ }
+    requires { ⌜ at + 2 * entry-size (form-of form) ≤ length (now out) ⌝ }
     requires { ⌜ Shaped s ⌝ }
     requires { ⌜ offset + sample < 4294967296 ⌝ }
     ensures { λ r. ⌜ Wrote (now (out .entry)) at (2 * entry-size (form-of form)) (flatMap (entry (form-of form)) (located (gain-id s) 0 (spans offset (sample ∷ xmp ∷ [])))) (now (out .exit)) r ⌝ }
@@ -69,10 +69,10 @@ pub(crate) fn write_iloc(
     offset: u32,
     lengths: PayloadLengths,
 ) -> usize
-    requires { ⌜ at + (cond (s .gain) (2 * entry-size (form-of form)) 0 + cond (s .tone) (entry-size (form-of form)) 0) ≤ length (now out) ⌝ }
+    requires { ⌜ at + gain-entries-size (form-of form) s ≤ length (now out) ⌝ }
     requires { ⌜ Shaped s ⌝ }
     requires { ⌜ offset + (lengths .sample + lengths .xmp) < 4294967296 ⌝ }
-    ensures { λ r. ⌜ Wrote (now (out .entry)) at (cond (s .gain) (2 * entry-size (form-of form)) 0 + cond (s .tone) (entry-size (form-of form)) 0) (flatMap (entry (form-of form)) (located (gain-id s) 0 (spans offset (sizes s lengths)))) (now (out .exit)) r ⌝ }
+    ensures { λ r. ⌜ Wrote (now (out .entry)) at (gain-entries-size (form-of form) s) (flatMap (entry (form-of form)) (located (gain-id s) 0 (spans offset (sizes s lengths)))) (now (out .exit)) r ⌝ }
 {
     if s.gain {
         let a = write_image_locations(out, at, form, s, offset, lengths.sample, lengths.xmp);

@@ -12,7 +12,7 @@ ghost use Rattle.octets.specs.Numbers.{_‖_, be, text, total};
 ghost use Rattle.octets.specs.Stores.{Wrote, Boxed};
 ghost use Rattle.panel.specs.Form.{form-of};
 ghost use Rattle.heif.specs.Items.{last-id, colour-grid, alpha-tile, alpha-grid, exif-id};
-ghost use Rattle.heif.specs.Iloc.{entry, located, iloc, iloc-size, entry-size};
+ghost use Rattle.heif.specs.Iloc.{entry, located, iloc, iloc-size, entry-size, gain-entries-size};
 ghost use Rattle.plan_items.specs.Items.{Shaped};
 ghost use Rattle.write_iloc.specs.Spans.{spans, location};
 ghost use Rattle.write_iloc.specs.Locations.{other-sizes, placed};
@@ -30,6 +30,13 @@ use plan_items::ids::last_id;
 use plan_items::payloads::PayloadLengths;
 use write_ids::form::write_count;
 use write_ids::form::write_item_box;
+
+// Where the runs of payloads begin: the colour samples, the alpha samples, and what lies behind them.
+pub struct Offsets {
+    pub color: u32,
+    pub alpha: u32,
+    pub other: u32,
+}
 
 // The colour tiles' entries, and the colour grid's, whose descriptor is the first in idat.
 fn write_color_locations(
@@ -84,11 +91,11 @@ fn write_exif_locations(
     exif: u32,
     gain: PayloadLengths,
 ) -> usize
-    requires { ⌜ at + (entry-size (form-of form) + (cond (s .gain) (2 * entry-size (form-of form)) 0 + cond (s .tone) (entry-size (form-of form)) 0)) ≤ length (now out) ⌝ }
+    requires { ⌜ at + (entry-size (form-of form) + gain-entries-size (form-of form) s) ≤ length (now out) ⌝ }
     requires { ⌜ Shaped s ⌝ }
     requires { ⌜ offset + (exif + (gain .sample + gain .xmp)) < 4294967296 ⌝ }
     requires { ⌜ s .exif ≡ true ⌝ }
-    ensures { λ r. ⌜ Wrote (now (out .entry)) at (entry-size (form-of form) + (cond (s .gain) (2 * entry-size (form-of form)) 0 + cond (s .tone) (entry-size (form-of form)) 0)) (flatMap (entry (form-of form)) (located (exif-id s) 0 (spans offset (other-sizes s exif gain)))) (now (out .exit)) r ⌝ }
+    ensures { λ r. ⌜ Wrote (now (out .entry)) at (entry-size (form-of form) + gain-entries-size (form-of form) s) (flatMap (entry (form-of form)) (located (exif-id s) 0 (spans offset (other-sizes s exif gain)))) (now (out .exit)) r ⌝ }
 {
     let id = exif_id(s);
     let a = write_location(out, at, form, id, 0, offset, exif);
@@ -105,22 +112,15 @@ fn write_other_locations(
     exif: u32,
     gain: PayloadLengths,
 ) -> usize
-    requires { ⌜ at + (cond (s .exif) (entry-size (form-of form)) 0 + (cond (s .gain) (2 * entry-size (form-of form)) 0 + cond (s .tone) (entry-size (form-of form)) 0)) ≤ length (now out) ⌝ }
+    requires { ⌜ at + (cond (s .exif) (entry-size (form-of form)) 0 + gain-entries-size (form-of form) s) ≤ length (now out) ⌝ }
     requires { ⌜ Shaped s ⌝ }
     requires { ⌜ offset + (exif + (gain .sample + gain .xmp)) < 4294967296 ⌝ }
-    ensures { λ r. ⌜ Wrote (now (out .entry)) at (cond (s .exif) (entry-size (form-of form)) 0 + (cond (s .gain) (2 * entry-size (form-of form)) 0 + cond (s .tone) (entry-size (form-of form)) 0)) (flatMap (entry (form-of form)) (located (exif-id s) 0 (spans offset (other-sizes s exif gain)))) (now (out .exit)) r ⌝ }
+    ensures { λ r. ⌜ Wrote (now (out .entry)) at (cond (s .exif) (entry-size (form-of form)) 0 + gain-entries-size (form-of form) s) (flatMap (entry (form-of form)) (located (exif-id s) 0 (spans offset (other-sizes s exif gain)))) (now (out .exit)) r ⌝ }
 {
     if s.exif {
         return write_exif_locations(out, at, form, s, offset, exif, gain);
     }
     crate::gain_map::write_iloc(out, at, form, s, offset, gain)
-}
-
-// Where the runs of payloads begin: the colour samples, the alpha samples, and what lies behind them.
-pub struct Offsets {
-    pub color: u32,
-    pub alpha: u32,
-    pub other: u32,
 }
 
 // The head of iloc: its sizes byte, and the count of entries.

@@ -24,8 +24,8 @@ fn write_ordinary_location(
     offset: u32,
     size: u32,
 ) -> usize
-    requires { ⌜ at + 16 ≤ length (now out) ⌝ }
-    ensures { λ r. ⌜ Wrote (now (out .entry)) at 16 (entry ordinary (location (id .0) method offset size)) (now (out .exit)) r ⌝ }
+    requires { ⌜ at + entry-size ordinary ≤ length (now out) ⌝ }
+    ensures { λ r. ⌜ Wrote (now (out .entry)) at (entry-size ordinary) (entry ordinary (location (id .0) method offset size)) (now (out .exit)) r ⌝ }
 {
     let a = write_ordinary_id(out, at, id);
     let b = w16(out, a, method);

@@ -5,7 +5,7 @@ ghost use lib.ListN.{length};
 ghost use Rattle.octets.specs.Numbers.{_‖_, be};
 ghost use Rattle.octets.specs.Stores.{Wrote};
 ghost use Rattle.panel.specs.Form.{form-of};
-ghost use Rattle.heif.specs.Ipma.{essential, _with_, each, association};
+ghost use Rattle.heif.specs.Ipma.{essential, _with_, each, association, association-size};
 ghost use Rattle.plan_runs.specs.Runs.{places, Narrow};
 use octets::w8;
 use panel::FileForm;
@@ -52,11 +52,11 @@ fn write_color_tile_association(
     ispe: Run,
     colr: Run,
 ) -> usize
-    requires { ⌜ at + (form-of form .id + 1 + (hvcc .count + (ispe .count + colr .count))) ≤ length (now out) ⌝ }
+    requires { ⌜ at + association-size (form-of form) (hvcc .count + (ispe .count + colr .count)) ≤ length (now out) ⌝ }
     requires { ⌜ Narrow hvcc ⌝ }
     requires { ⌜ Narrow ispe ⌝ }
     requires { ⌜ Narrow colr ⌝ }
-    ensures { λ r. ⌜ Wrote (now (out .entry)) at (form-of form .id + 1 + (hvcc .count + (ispe .count + colr .count))) (association (form-of form) (id .0 with essential (places hvcc) ‖ essential (places ispe) ‖ essential (places colr))) (now (out .exit)) r ⌝ }
+    ensures { λ r. ⌜ Wrote (now (out .entry)) at (association-size (form-of form) (hvcc .count + (ispe .count + colr .count))) (association (form-of form) (id .0 with essential (places hvcc) ‖ essential (places ispe) ‖ essential (places colr))) (now (out .exit)) r ⌝ }
 {
     let a = write_association_head(out, at, form, id, hvcc.count + (ispe.count + colr.count));
     write_runs(out, a, hvcc, ispe, colr, true)
@@ -73,12 +73,12 @@ pub(crate) fn write_color_tile_associations(
     ispe: Run,
     colr: Run,
 ) -> usize
-    requires { ⌜ at + (form-of form .id + 1 + (hvcc .count + (ispe .count + colr .count))) * n ≤ length (now out) ⌝ }
+    requires { ⌜ at + association-size (form-of form) (hvcc .count + (ispe .count + colr .count)) * n ≤ length (now out) ⌝ }
     requires { ⌜ first .0 + n < 4294967296 ⌝ }
     requires { ⌜ Narrow hvcc ⌝ }
     requires { ⌜ Narrow ispe ⌝ }
     requires { ⌜ Narrow colr ⌝ }
-    ensures { λ r. ⌜ Wrote (now (out .entry)) at ((form-of form .id + 1 + (hvcc .count + (ispe .count + colr .count))) * n) (flatMap (association (form-of form)) (each (first .0) n (essential (places hvcc) ‖ essential (places ispe) ‖ essential (places colr)))) (now (out .exit)) r ⌝ }
+    ensures { λ r. ⌜ Wrote (now (out .entry)) at (association-size (form-of form) (hvcc .count + (ispe .count + colr .count)) * n) (flatMap (association (form-of form)) (each (first .0) n (essential (places hvcc) ‖ essential (places ispe) ‖ essential (places colr)))) (now (out .exit)) r ⌝ }
 {
     let mut left = n;
     let mut a = at;
@@ -100,10 +100,10 @@ fn write_alpha_tile_association(
     hvcc: Run,
     ispe: Run,
 ) -> usize
-    requires { ⌜ at + (form-of form .id + 1 + (hvcc .count + ispe .count)) ≤ length (now out) ⌝ }
+    requires { ⌜ at + association-size (form-of form) (hvcc .count + ispe .count) ≤ length (now out) ⌝ }
     requires { ⌜ Narrow hvcc ⌝ }
     requires { ⌜ Narrow ispe ⌝ }
-    ensures { λ r. ⌜ Wrote (now (out .entry)) at (form-of form .id + 1 + (hvcc .count + ispe .count)) (association (form-of form) (id .0 with essential (places hvcc) ‖ essential (places ispe))) (now (out .exit)) r ⌝ }
+    ensures { λ r. ⌜ Wrote (now (out .entry)) at (association-size (form-of form) (hvcc .count + ispe .count)) (association (form-of form) (id .0 with essential (places hvcc) ‖ essential (places ispe))) (now (out .exit)) r ⌝ }
 {
     let a = write_association_head(out, at, form, id, hvcc.count + ispe.count);
     let b = write_run(out, a, hvcc, true);
@@ -120,11 +120,11 @@ pub(crate) fn write_alpha_tile_associations(
     hvcc: Run,
     ispe: Run,
 ) -> usize
-    requires { ⌜ at + (form-of form .id + 1 + (hvcc .count + ispe .count)) * n ≤ length (now out) ⌝ }
+    requires { ⌜ at + association-size (form-of form) (hvcc .count + ispe .count) * n ≤ length (now out) ⌝ }
     requires { ⌜ first .0 + n < 4294967296 ⌝ }
     requires { ⌜ Narrow hvcc ⌝ }
     requires { ⌜ Narrow ispe ⌝ }
-    ensures { λ r. ⌜ Wrote (now (out .entry)) at ((form-of form .id + 1 + (hvcc .count + ispe .count)) * n) (flatMap (association (form-of form)) (each (first .0) n (essential (places hvcc) ‖ essential (places ispe)))) (now (out .exit)) r ⌝ }
+    ensures { λ r. ⌜ Wrote (now (out .entry)) at (association-size (form-of form) (hvcc .count + ispe .count) * n) (flatMap (association (form-of form)) (each (first .0) n (essential (places hvcc) ‖ essential (places ispe)))) (now (out .exit)) r ⌝ }
 {
     let mut left = n;
     let mut a = at;

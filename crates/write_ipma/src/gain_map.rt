@@ -6,8 +6,8 @@ ghost use lib.ListN.{length};
 ghost use Rattle.octets.specs.Stores.{Wrote};
 ghost use Rattle.panel.specs.Form.{form-of};
 ghost use Rattle.panel.specs.Parts.{given};
-ghost use Rattle.heif.specs.Items.{gain-id};
-ghost use Rattle.heif.specs.Ipma.{_with_, image-list, tone-list, gain-associations, association};
+ghost use Rattle.heif.specs.Items.{gain-id, tone-id};
+ghost use Rattle.heif.specs.Ipma.{_with_, image-list, tone-list, gain-associations, association, association-size};
 ghost use Rattle.plan_items.specs.Items.{Shaped};
 ghost use Rattle.plan_runs.specs.Roles.{its-of, Narrow-places};
 use crate::association::write_association_head;
@@ -23,10 +23,10 @@ use write_ipma_lists::gain_map::write_tone_list;
 
 // The gain image's entry, where there is one.
 fn write_image_association(out: &mut [u8], at: usize, form: FileForm, s: Shape, y: Places) -> usize
-    requires { ⌜ at + cond (s .gain) (form-of form .id + 1 + length (image-list (its-of y))) 0 ≤ length (now out) ⌝ }
+    requires { ⌜ at + cond (s .gain) (association-size (form-of form) (length (image-list (its-of y)))) 0 ≤ length (now out) ⌝ }
     requires { ⌜ Shaped s ⌝ }
     requires { ⌜ Narrow-places y ⌝ }
-    ensures { λ r. ⌜ Wrote (now (out .entry)) at (cond (s .gain) (form-of form .id + 1 + length (image-list (its-of y))) 0) (flatMap (association (form-of form)) (given (s .gain) ((gain-id s with image-list (its-of y)) ∷ []))) (now (out .exit)) r ⌝ }
+    ensures { λ r. ⌜ Wrote (now (out .entry)) at (cond (s .gain) (association-size (form-of form) (length (image-list (its-of y)))) 0) (flatMap (association (form-of form)) (given (s .gain) ((gain-id s with image-list (its-of y)) ∷ []))) (now (out .exit)) r ⌝ }
 {
     if s.gain {
         let id = gain_id(s);
@@ -38,10 +38,10 @@ fn write_image_association(out: &mut [u8], at: usize, form: FileForm, s: Shape, 
 
 // The tone map's entry, where there is one.
 fn write_tone_association(out: &mut [u8], at: usize, form: FileForm, s: Shape, y: Places) -> usize
-    requires { ⌜ at + cond (s .tone) (form-of form .id + 1 + length (tone-list (its-of y))) 0 ≤ length (now out) ⌝ }
+    requires { ⌜ at + cond (s .tone) (association-size (form-of form) (length (tone-list (its-of y)))) 0 ≤ length (now out) ⌝ }
     requires { ⌜ Shaped s ⌝ }
     requires { ⌜ Narrow-places y ⌝ }
-    ensures { λ r. ⌜ Wrote (now (out .entry)) at (cond (s .tone) (form-of form .id + 1 + length (tone-list (its-of y))) 0) (flatMap (association (form-of form)) (given (s .tone) ((gain-id s + 2 with tone-list (its-of y)) ∷ []))) (now (out .exit)) r ⌝ }
+    ensures { λ r. ⌜ Wrote (now (out .entry)) at (cond (s .tone) (association-size (form-of form) (length (tone-list (its-of y)))) 0) (flatMap (association (form-of form)) (given (s .tone) ((tone-id s with tone-list (its-of y)) ∷ []))) (now (out .exit)) r ⌝ }
 {
     if s.tone {
         let id = tmap_id(s);

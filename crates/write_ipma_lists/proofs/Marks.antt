@@ -1,20 +1,13 @@
--- Positions as they are written, marked as essential or not, and the entries of ipma that they make.
+-- Positions as they are written, marked as essential or not.
 use mathlib.Core.Path.{_≡_, refl, sym, ap, _∙_}
 use mathlib.Core.Bool.{Bool, true, false, cond}
-use mathlib.Core.List.{List, [], _∷_, _++_, append-assoc, map, flatMap}
+use mathlib.Core.List.{List, [], _∷_, _++_, map}
 use Prim.Native.Nat.{ℕ, suc, _+_, _≤_}
 use native.Mathlib.Nat.{zero-add}
 use native.Mathlib.Omega.{arith}
-use lib.ListN.{length, length-append}
-use Rattle.octets.specs.Numbers.{_‖_, be}
-use Rattle.octets.proofs.Lists.{flatMap-one}
+use Rattle.octets.specs.Numbers.{be}
 use Rattle.octets.proofs.Numbers.{be-one}
-use Rattle.panel.specs.Form.{Form}
 use Rattle.heif.specs.Items.{ids-from}
-use Rattle.heif.specs.Ipma.{essential, _with_, association}
-use Rattle.plan_runs.specs.Runs.{places}
-use Rattle.plan_runs.specs.declared.Run.{Run}
-use Rattle.plan_runs.proofs.Runs.{length-essential}
 use Rattle.write_ipma_lists.specs.Marks.{marked}
 
 -- a run of none, one or two positions
@@ -41,18 +34,3 @@ unmarked (k ∷ l) = λ i. zero-add k i ∷ unmarked l i
 pub by-mark : (e : Bool) {m : ℕ} (l : List ℕ) → m ≡ cond e 128 0 → map (λ k. m + k) l ≡ marked e l
 by-mark true l h = ap (λ (m : ℕ). map (λ k. m + k) l) h
 by-mark false l h = ap (λ (m : ℕ). map (λ k. m + k) l) h ∙ unmarked l
-
--- how many positions two runs have, and three
-pub count-two : (a b : Run) → a .count + b .count ≡ length (essential (places a) ‖ essential (places b))
-count-two a b = simp (length-append, length-essential)
-
-pub count-three : (a b c : Run) → a .count + (b .count + c .count) ≡ length (essential (places a) ‖ essential (places b) ‖ essential (places c))
-count-three a b c = simp (length-append, length-essential)
-
--- an entry of ipma: the id, the count and the associations
-pub counted : (f : Form) (id : ℕ) {count : ℕ} (l : List ℕ) → count ≡ length l → (be (f .id) id ‖ be 1 count) ++ l ≡ association f (id with l)
-counted f id {count} l k = append-assoc (be (f .id) id) (be 1 count) l ∙ ap (λ (m : ℕ). be (f .id) id ‖ be 1 m ‖ l) k
-
--- a list of one entry
-pub associated : (f : Form) {id count j : ℕ} (l : List ℕ) → id ≡ j → count ≡ length l → (be (f .id) id ‖ be 1 count) ++ l ≡ flatMap (association f) ((j with l) ∷ [])
-associated f {id} {count} {j} l h k = ap (λ (m : ℕ). (be (f .id) m ‖ be 1 count) ++ l) h ∙ counted f j l k ∙ sym (flatMap-one (association f) (j with l))

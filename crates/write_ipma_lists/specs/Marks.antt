@@ -1,4 +1,4 @@
--- Positions as ipma has them.
+-- The highest bit of an association.
 use mathlib.Core.Bool.{Bool, cond}
 use mathlib.Core.List.{List}
 use Prim.Native.Nat.{ℕ}

@@ -26,9 +26,11 @@ pub fn write_color_grid_list(out: &mut [u8], at: usize, y: Places) -> usize
     let imir = o.imir;
     let a = write_run(out, at, full, false);
     let b = write_run(out, a, colr, true);
-    let d = write_runs(out, b, pixi, second, clli, false);
-    let e = write_run(out, d, irot, true);
-    write_run(out, e, imir, true)
+    let d = write_run(out, b, pixi, false);
+    let e = write_run(out, d, second, false);
+    let f = write_run(out, e, clli, false);
+    let g = write_run(out, f, irot, true);
+    write_run(out, g, imir, true)
 }
 
 // The alpha grid's properties: ispe, pixi, auxC, and of those that may be absent the transforms.

@@ -6,7 +6,7 @@ ghost use lib.ListN.{length};
 ghost use Rattle.octets.specs.Stores.{Boxed};
 ghost use Rattle.panel.specs.Parts.{given};
 ghost use Rattle.panel.specs.Form.{form-of};
-ghost use Rattle.heif.specs.Items.{gain-id, colour-grid};
+ghost use Rattle.heif.specs.Items.{gain-id, colour-grid, xmp-id, tone-id};
 ghost use Rattle.heif.specs.Iref.{reference, gain-references, reference-size, gain-references-size};
 ghost use Rattle.plan_items.specs.Items.{Shaped};
 use crate::reference::write_dimg_pair;
@@ -22,7 +22,7 @@ use plan_items::ids::xmp_id;
 fn write_image_refs(out: &mut [u8], at: usize, form: FileForm, s: Shape) -> usize
     requires { ⌜ at + cond (s .gain) (2 * reference-size (form-of form) 1) 0 ≤ length (now out) ⌝ }
     requires { ⌜ Shaped s ⌝ }
-    ensures { λ r. ⌜ Boxed (now (out .entry)) at (cond (s .gain) (2 * reference-size (form-of form) 1) 0) (given (s .gain) (reference (form-of form) "auxl" (gain-id s) (colour-grid s ∷ []) ∷ reference (form-of form) "cdsc" (gain-id s + 1) (gain-id s ∷ []) ∷ [])) (now (out .exit)) r ⌝ }
+    ensures { λ r. ⌜ Boxed (now (out .entry)) at (cond (s .gain) (2 * reference-size (form-of form) 1) 0) (given (s .gain) (reference (form-of form) "auxl" (gain-id s) (colour-grid s ∷ []) ∷ reference (form-of form) "cdsc" (xmp-id s) (gain-id s ∷ []) ∷ [])) (now (out .exit)) r ⌝ }
 {
     if s.gain {
         let image = gain_id(s);
@@ -38,7 +38,7 @@ fn write_image_refs(out: &mut [u8], at: usize, form: FileForm, s: Shape) -> usiz
 fn write_tone_ref(out: &mut [u8], at: usize, form: FileForm, s: Shape) -> usize
     requires { ⌜ at + cond (s .tone) (reference-size (form-of form) 2) 0 ≤ length (now out) ⌝ }
     requires { ⌜ Shaped s ⌝ }
-    ensures { λ r. ⌜ Boxed (now (out .entry)) at (cond (s .tone) (reference-size (form-of form) 2) 0) (given (s .tone) (reference (form-of form) "dimg" (gain-id s + 2) (colour-grid s ∷ gain-id s ∷ []) ∷ [])) (now (out .exit)) r ⌝ }
+    ensures { λ r. ⌜ Boxed (now (out .entry)) at (cond (s .tone) (reference-size (form-of form) 2) 0) (given (s .tone) (reference (form-of form) "dimg" (tone-id s) (colour-grid s ∷ gain-id s ∷ []) ∷ [])) (now (out .exit)) r ⌝ }
 {
     if s.tone {
         let tone = tmap_id(s);

@@ -8,7 +8,7 @@ ghost use Rattle.octets.specs.Boxes.{full, boxes};
 ghost use Rattle.octets.specs.Stores.{Boxed};
 ghost use Rattle.panel.specs.Form.{form-of};
 ghost use Rattle.panel.specs.Of.{panel-of};
-ghost use Rattle.panel.specs.Lent.{lent-props};
+ghost use Rattle.heif.specs.Lent.{lent-props};
 ghost use Rattle.plan_runs.specs.Roles.{Narrow-places};
 ghost use Rattle.write_boxes.specs.Idat.{Sided};
 ghost use Rattle.write_iloc.specs.Locations.{other-sizes, placed};
@@ -21,6 +21,7 @@ use panel::Panel;
 use plan_items::ids::color_grid_id;
 use plan_layout::Layout;
 use plan_runs::Places;
+use write_boxes::grpl::write_grpl;
 use write_boxes::hdlr::write_hdlr;
 use write_boxes::idat::write_idat;
 use write_boxes::pitm::write_pitm;
@@ -148,7 +149,7 @@ fn write_property_boxes(
         gain_hvcc,
         alternate_icc,
     );
-    let b = write_boxes::grpl::write_groups(out, a, s);
+    let b = write_grpl(out, a, s);
     write_idat(out, b, y.idat, dims)
 }
 

@@ -9,8 +9,8 @@ use Rattle.octets.specs.Numbers.{_‖_}
 use Rattle.octets.specs.Boxes.{Box, box, boxes}
 use Rattle.panel.specs.Types.{bits}
 use Rattle.panel.specs.Panel.{Colour, Gain}
-use Rattle.panel.specs.Lent.{Lent, lent-props}
-use Rattle.panel.specs.Of.{part, colour-of, light-of, gain-of, alternate-of, panel-of, with-properties}
+use Rattle.panel.specs.Lent.{Lent}
+use Rattle.panel.specs.Of.{part, colour-of, light-of, gain-of, alternate-of, panel-of}
 use Rattle.panel.specs.declared.Panel.{Panel as Numbers}
 use Rattle.panel.specs.declared.part.Part.{Part}
 use Rattle.panel.specs.declared.part.Part.the-variants.{Absent, Present}
@@ -21,6 +21,7 @@ use Rattle.heif.specs.Pixi.{pixi}
 use Rattle.heif.specs.Ipco.{Role, colour-slots, alpha-slots, option-slots, tone-slots, gain-slots, slots, held, ipco}
 use Rattle.heif.specs.Ipco.{colour-properties-size, alpha-properties-size, optional-properties-size, gain-properties-size, ipco-size}
 use Rattle.heif.proofs.Ipco.{held-append, length-ipco}
+use Rattle.heif.specs.Lent.{lent-props, with-properties}
 
 -- what it holds of a lending
 abbrev props : Lent → Lent

@@ -1,6 +1,6 @@
 -- A product of two numbers of 32 bits.
 use borrow.Author.Needs.{needs}
-use Rattle.plan_checks.proofs.Tests.{below}
+use Rattle.octets.proofs.Numbers.{below}
 use Rattle.plan_checks.proofs.tile_count.Statement.{statement}
 use Rattle.plan_checks.proofs.tile_count.Tie as tie
 

@@ -1,6 +1,6 @@
 -- Section by section, to the end.
 use borrow.Author.Needs.{needs}
-use Rattle.plan_checks.proofs.Tests.{below}
+use Rattle.octets.proofs.Numbers.{below}
 use Rattle.sheet_fields.proofs.Reading.{goes-on, as-well}
 use Rattle.sheet.specs.Sheet.{fields}
 use Rattle.sheet.proofs.Panels.{sections}

@@ -22,12 +22,12 @@ returns c =
     let z = start .args .z in (
       λ l m h.
           let p = panel-of (start .args .panel) l in
-          let k : c3 .turns-and-light-size .result ≡ z .options .irot .count + z .options .imir .count + 4 * z .options .clli .count = (c3 .turns-and-light-size .ensures) .0 in
+          let k : c3 .turns-and-clli-size .result ≡ z .options .irot .count + z .options .imir .count + 4 * z .options .clli .count = (c3 .turns-and-clli-size .ensures) .0 in
           renamed
           (exact {k = 133 + 9 * z .options .irot .count + 9 * z .options .imir .count + 12 * z .options .clli .count} ⊕ m .color-hvcc ⊕ m .alpha-hvcc ⊕ (c1 .colr-size .ensures) .0 (l .icc) (m .icc) ⊕ (c2 .secondary-colr-size .ensures) .0 (l .icc) (m .icc) ⊕ (c4 .gain-properties-size .ensures) .0 l (m .gain .hvcc) (m .gain .icc))
           (omega (arith, k, all-placed p z h, irot-placed p z h, imir-placed p z h, clli-placed p z h))
           (omega (arith, irot-placed p z h, imir-placed p z h, clli-placed p z h)),
-      omega (arith, start .pre .0, color .struct-known2 .given, alpha .struct-known3 .given, (c1 .colr-size .ensures) .1, (c2 .secondary-colr-size .ensures) .1, (c3 .turns-and-light-size .ensures) .1, (c4 .gain-properties-size .ensures) .1),
+      omega (arith, start .pre .0, color .struct-known2 .given, alpha .struct-known3 .given, (c1 .colr-size .ensures) .1, (c2 .secondary-colr-size .ensures) .1, (c3 .turns-and-clli-size .ensures) .1, (c4 .gain-properties-size .ensures) .1),
     )
 
 pub ipco-size-spec : {M : Type 1} → statement M

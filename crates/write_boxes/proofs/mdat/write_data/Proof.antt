@@ -4,9 +4,9 @@ use mathlib.Core.List.{flatten}
 use native.Mathlib.Omega.{arith}
 use borrow.Author.Needs.{needs}
 use Rattle.octets.proofs.Stores.{_▹_, told, nothing}
-use Rattle.panel.specs.Of.{with-payloads}
 use Rattle.panel.specs.declared.gain_map.MaybeGainMap.{MaybeGainMap}
 use Rattle.heif.specs.Mdat.{gain-data-size}
+use Rattle.heif.specs.Lent.{with-payloads}
 use Rattle.write_boxes.proofs.mdat.write_data.Statement.{statement}
 use Rattle.write_boxes.proofs.mdat.write_data.Tie as tie
 

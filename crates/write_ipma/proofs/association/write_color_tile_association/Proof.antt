@@ -3,7 +3,7 @@ use mathlib.Core.Path.{refl}
 use borrow.Author.Needs.{needs}
 use Rattle.octets.proofs.Stores.{_▹_, told}
 use Rattle.panel.specs.Form.{form-of}
-use Rattle.write_ipma_lists.proofs.Marks.{count-three, counted}
+use Rattle.write_ipma.proofs.Entries.{count-three, counted}
 use Rattle.write_ipma.proofs.association.write_color_tile_association.Statement.{statement}
 use Rattle.write_ipma.proofs.association.write_color_tile_association.Tie as tie
 

@@ -3,9 +3,9 @@ use mathlib.Core.Path.{ap}
 use native.Mathlib.Omega.{arith}
 use borrow.Author.Needs.{needs}
 use Rattle.octets.proofs.Stores.{kept, no-boxes, _▸_}
-use Rattle.panel.specs.Of.{with-properties}
 use Rattle.panel.specs.declared.gain_map.MaybeGainMap.{MaybeGainMap}
 use Rattle.heif.specs.Ipco.{gain-properties-size}
+use Rattle.heif.specs.Lent.{with-properties}
 use Rattle.write_properties.proofs.gain_map.write_ipco.Statement.{statement}
 use Rattle.write_properties.proofs.gain_map.write_ipco.Tie as tie
 

@@ -4,10 +4,10 @@ use mathlib.Core.Bool.{Bool, cond}
 use Prim.Native.Nat.{ℕ}
 use borrow.Author.Needs.{needs}
 use Rattle.octets.proofs.Stores.{retold}
-use Rattle.panel.specs.Of.{with-properties}
 use Rattle.heif.specs.Ispe.{ispe}
 use Rattle.heif.specs.Pixi.{pixi}
 use Rattle.heif.specs.Ipco.{gain-slots, held}
+use Rattle.heif.specs.Lent.{with-properties}
 use Rattle.write_properties.proofs.ipco.write_gain_properties.Statement.{statement}
 use Rattle.write_properties.proofs.ipco.write_gain_properties.Tie as tie
 

@@ -6,7 +6,7 @@ use native.Mathlib.Omega.{arith}
 use borrow.Author.Needs.{needs}
 use Rattle.octets.specs.Boxes.{Box}
 use Rattle.octets.proofs.Stores.{kept, boxed, retold, _▸_}
-use Rattle.panel.specs.Lent.{lent-props}
+use Rattle.heif.specs.Lent.{lent-props}
 use Rattle.write_properties.proofs.Parts.{ipco-joined, ipco-sum}
 use Rattle.write_properties.proofs.ipco.write_ipco.Statement.{statement}
 use Rattle.write_properties.proofs.ipco.write_ipco.Tie as tie
