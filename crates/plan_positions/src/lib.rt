@@ -1,6 +1,5 @@
 // The places of all properties of a panel, from the first position on.
 
-pub mod associations;
 pub mod counts;
 pub mod gain;
 

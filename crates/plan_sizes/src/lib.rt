@@ -1,9 +1,10 @@
 // The whole size of each box of a file and the sizes of its payloads, from lengths alone.
 //
-// The size of ipco stands in `properties`, and that of ipma is asked of `plan_positions`.
+// The sizes of ipco and ipma stand in modules of their names.
 
+pub mod ipco;
+pub mod ipma;
 pub mod lengths;
-pub mod properties;
 
 ghost use mathlib.Core.Path.{_≡_};
 ghost use Prim.Native.Nat.{_+_, _≤_};
@@ -24,10 +25,11 @@ ghost use Rattle.plan_runs.specs.Roles.{Narrow-places};
 ghost use Rattle.plan_positions.specs.Placed.{Placed};
 ghost use Rattle.plan_sizes.specs.Capped.{Capped, Length-of, Capped-payloads, Gain-measured, Measured};
 ghost use Rattle.plan_sizes.specs.Sized.{Sized, Small};
+use crate::ipco::ipco_size;
+use crate::ipco::part_size;
+use crate::ipma::ipma_size;
 use crate::lengths::GainLengths;
 use crate::lengths::Lengths;
-use crate::properties::ipco_size;
-use crate::properties::part_size;
 use panel::FileForm;
 use panel::Panel;
 use panel::Shape;
@@ -39,7 +41,6 @@ use plan_items::form::ids_bytes;
 use plan_items::ids::last_id;
 use plan_items::payloads::PayloadLengths;
 use plan_items::shape::is_present;
-use plan_positions::associations::ipma_bytes;
 use plan_runs::Places;
 
 // The whole size of each box, and of the payloads behind the samples. Where a byte part is too long for a file, ipco, iprp, meta, mdat, exif
@@ -156,7 +157,7 @@ pub fn sizes_of(
     let iloc = iloc_size(form, s);
     let iinf = iinf_size(form, s);
     let iref = iref_size(form, s);
-    let ipma = ipma_bytes(form, s, z);
+    let ipma = ipma_size(form, s, z);
     let idat = 8 + 2 * descriptor;
     let ipco = ipco_size(panel, z, y);
     let iprp = 8 + ipco + ipma as u64;

@@ -40,7 +40,7 @@ returns c =
           let w = form-of (start .args .form) in
           let p = panel-of (start .args .panel) l in
           let id : c6 .ids-bytes .result ≡ w .id = omega (arith, c6 .ids-bytes .ensures .0) in
-          let ipma = (c4 .ipma-bytes .ensures) .0 ∙ ap (λ (s : Shape). 8 + length (ipma w (associations s (its-of z)) .body)) e ∙ ap (λ (k : ℕ). 8 + k) (ipma-by-runs w p z f) in
+          let ipma = (c4 .ipma-size .ensures) .0 ∙ ap (λ (s : Shape). 8 + length (ipma w (associations s (its-of z)) .body)) e ∙ ap (λ (k : ℕ). 8 + k) (ipma-by-runs w p z f) in
           let iloc = (c1 .iloc-size .ensures) ∙ ap (λ (s : Shape). 8 + iloc-size w s) e in
           let iinf = (c2 .iinf-size .ensures) ∙ ap (λ (s : Shape). 8 + iinf-size w s) e in
           let iref = (c3 .iref-size .ensures) ∙ ap (λ (s : Shape). 8 + iref-size w s) e in
@@ -64,7 +64,7 @@ returns c =
             exif = exif;
             gain = payloads;
           },
-      record { meta = omega (arith, (c5 .ipco-size .ensures) .1, (c7 .when .ensures) .1, (c4 .ipma-bytes .ensures) .1, (c6 .ids-bytes .ensures) .1); mdat = omega (arith, (c11 .mdat-size .ensures) .1) },
+      record { meta = omega (arith, (c5 .ipco-size .ensures) .1, (c7 .when .ensures) .1, (c4 .ipma-size .ensures) .1, (c6 .ids-bytes .ensures) .1); mdat = omega (arith, (c11 .mdat-size .ensures) .1) },
     )
 
 pub sizes-of-spec : {M : Type 1} → statement M

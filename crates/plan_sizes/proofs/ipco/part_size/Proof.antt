@@ -1,8 +1,8 @@
 -- Nothing, or the head and the part.
 use borrow.Author.Needs.{needs}
 use Rattle.plan_sizes.proofs.Caps.{_⊕_, exact}
-use Rattle.plan_sizes.proofs.properties.part_size.Statement.{statement}
-use Rattle.plan_sizes.proofs.properties.part_size.Tie as tie
+use Rattle.plan_sizes.proofs.ipco.part_size.Statement.{statement}
+use Rattle.plan_sizes.proofs.ipco.part_size.Tie as tie
 
 returns : tie.Need-returns
 returns c =

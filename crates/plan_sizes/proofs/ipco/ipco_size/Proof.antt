@@ -6,8 +6,8 @@ use borrow.Author.Needs.{needs}
 use Rattle.panel.specs.Of.{panel-of}
 use Rattle.plan_positions.proofs.Counted.{irot-placed, imir-placed, clli-placed, all-placed}
 use Rattle.plan_sizes.proofs.Caps.{_⊕_, exact, renamed}
-use Rattle.plan_sizes.proofs.properties.ipco_size.Statement.{statement}
-use Rattle.plan_sizes.proofs.properties.ipco_size.Tie as tie
+use Rattle.plan_sizes.proofs.ipco.ipco_size.Statement.{statement}
+use Rattle.plan_sizes.proofs.ipco.ipco_size.Tie as tie
 
 returns : tie.Need-returns
 unfolding panel-of

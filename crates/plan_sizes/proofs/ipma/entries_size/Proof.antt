@@ -3,8 +3,8 @@ use Prim.Native.Nat.{_+_, _≤_}
 use native.Mathlib.Omega.{arith}
 use native.Mathlib.Nat.{mul-le-mul}
 use borrow.Author.Needs.{needs}
-use Rattle.plan_positions.proofs.associations.entries_size.Statement.{statement}
-use Rattle.plan_positions.proofs.associations.entries_size.Tie as tie
+use Rattle.plan_sizes.proofs.ipma.entries_size.Statement.{statement}
+use Rattle.plan_sizes.proofs.ipma.entries_size.Tie as tie
 
 mul-result : tie.Need-mul-result
 mul-result c =

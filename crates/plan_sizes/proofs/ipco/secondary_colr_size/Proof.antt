@@ -6,8 +6,8 @@ use Rattle.octets.proofs.Lists.{cond-mul}
 use Rattle.panel.specs.Parts.{has}
 use Rattle.panel.specs.Of.{part}
 use Rattle.plan_sizes.proofs.Caps.{_⊕_, exact, renamed}
-use Rattle.plan_sizes.proofs.properties.secondary_colr_size.Statement.{statement}
-use Rattle.plan_sizes.proofs.properties.secondary_colr_size.Tie as tie
+use Rattle.plan_sizes.proofs.ipco.secondary_colr_size.Statement.{statement}
+use Rattle.plan_sizes.proofs.ipco.secondary_colr_size.Tie as tie
 
 returns : tie.Need-returns
 returns c =

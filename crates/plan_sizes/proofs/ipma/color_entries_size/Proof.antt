@@ -4,11 +4,11 @@ use Prim.Native.Nat.{_+_, _*_}
 use borrow.Author.Needs.{needs}
 use Rattle.panel.specs.Form.{form-of}
 use Rattle.heif.specs.Items.{colour-grid}
-use Rattle.heif.specs.Ipma.{colour-tile-list, colour-grid-list}
+use Rattle.heif.specs.Ipma.{colour-tile-list, colour-grid-list, association-size}
 use Rattle.heif.proofs.Ipma.{length-picture}
 use Rattle.plan_runs.specs.Roles.{its-of}
-use Rattle.plan_positions.proofs.associations.color_entries_size.Statement.{statement}
-use Rattle.plan_positions.proofs.associations.color_entries_size.Tie as tie
+use Rattle.plan_sizes.proofs.ipma.color_entries_size.Statement.{statement}
+use Rattle.plan_sizes.proofs.ipma.color_entries_size.Tie as tie
 
 returns : tie.Need-returns
 returns c =
@@ -19,7 +19,7 @@ returns c =
     let s = a .s in
     let its = its-of (a .y) in (
       (c .entries-size .ensures) .0
-          ∙ (λ i. (f .id + 1 + (tile .color-tile-count .ensures) .0 i) * s .tiles + (f .id + 1 + (grid .color-grid-count .ensures) .0 i))
+          ∙ (λ i. association-size f ((tile .color-tile-count .ensures) .0 i) * s .tiles + association-size f ((grid .color-grid-count .ensures) .0 i))
           ∙ sym (length-picture f 1 (s .tiles) (colour-grid s) (colour-tile-list its) (colour-grid-list its)),
       (c .entries-size .ensures) .1,
     )

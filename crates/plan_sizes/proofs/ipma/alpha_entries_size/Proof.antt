@@ -4,11 +4,11 @@ use Prim.Native.Nat.{_+_, _*_}
 use borrow.Author.Needs.{needs}
 use Rattle.panel.specs.Form.{form-of}
 use Rattle.heif.specs.Items.{alpha-tile, alpha-grid}
-use Rattle.heif.specs.Ipma.{alpha-tile-list, alpha-grid-list}
+use Rattle.heif.specs.Ipma.{alpha-tile-list, alpha-grid-list, association-size}
 use Rattle.heif.proofs.Ipma.{length-picture}
 use Rattle.plan_runs.specs.Roles.{its-of}
-use Rattle.plan_positions.proofs.associations.alpha_entries_size.Statement.{statement}
-use Rattle.plan_positions.proofs.associations.alpha_entries_size.Tie as tie
+use Rattle.plan_sizes.proofs.ipma.alpha_entries_size.Statement.{statement}
+use Rattle.plan_sizes.proofs.ipma.alpha_entries_size.Tie as tie
 
 returns : tie.Need-returns
 returns c =
@@ -19,7 +19,7 @@ returns c =
     let s = a .s in
     let its = its-of (a .y) in (
       (c .entries-size .ensures) .0
-          ∙ (λ i. (f .id + 1 + (tile .alpha-tile-count .ensures) .0 i) * s .tiles + (f .id + 1 + (grid .alpha-grid-count .ensures) .0 i))
+          ∙ (λ i. association-size f ((tile .alpha-tile-count .ensures) .0 i) * s .tiles + association-size f ((grid .alpha-grid-count .ensures) .0 i))
           ∙ sym (length-picture f (alpha-tile s) (s .tiles) (alpha-grid s) (alpha-tile-list its) (alpha-grid-list its)),
       (c .entries-size .ensures) .1,
     )

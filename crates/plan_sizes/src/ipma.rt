@@ -1,10 +1,10 @@
-// How many bytes ipma takes.
+// The size of ipma, by how many properties each item names.
 ghost use mathlib.Core.Path.{_≡_};
 ghost use mathlib.Core.List.{flatMap};
 ghost use Prim.Native.Nat.{_+_, _*_, _≤_};
 ghost use lib.ListN.{length};
 ghost use Rattle.panel.specs.Form.{form-of};
-ghost use Rattle.heif.specs.Ipma.{colour-associations, alpha-associations, associations, association, ipma};
+ghost use Rattle.heif.specs.Ipma.{colour-associations, alpha-associations, associations, association, ipma, association-size};
 ghost use Rattle.plan_runs.specs.Roles.{its-of, Narrow-places};
 use panel::FileForm;
 use panel::Shape;
@@ -23,7 +23,7 @@ fn entries_size(form: FileForm, n: u32, tile: u8, grid: u8) -> u32
     requires { ⌜ n ≤ 65536 ⌝ }
     requires { ⌜ tile ≤ 6 ⌝ }
     requires { ⌜ grid ≤ 14 ⌝ }
-    ensures { λ r. ⌜ r ≡ (form-of form .id + 1 + tile) * n + (form-of form .id + 1 + grid) ⌝ }
+    ensures { λ r. ⌜ r ≡ association-size (form-of form) tile * n + association-size (form-of form) grid ⌝ }
     ensures { λ r. ⌜ r ≤ 730000 ⌝ }
 {
     (1 + tile) as u32 * n + (1 + grid) as u32 + ids_bytes(form, n + 1)
@@ -54,7 +54,7 @@ fn alpha_entries_size(form: FileForm, s: Shape, y: Places) -> u32
 }
 
 // ipma, the whole box.
-pub fn ipma_bytes(form: FileForm, s: Shape, y: Places) -> u32
+pub(crate) fn ipma_size(form: FileForm, s: Shape, y: Places) -> u32
     requires { ⌜ s .tiles ≤ 65536 ⌝ }
     requires { ⌜ Narrow-places y ⌝ }
     ensures { λ r. ⌜ r ≡ 8 + length (ipma (form-of form) (associations s (its-of y)) .body) ⌝ }

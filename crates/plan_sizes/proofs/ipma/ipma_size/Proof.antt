@@ -7,8 +7,8 @@ use borrow.Author.Needs.{needs}
 use Rattle.panel.specs.Form.{form-of}
 use Rattle.heif.proofs.Ipma.{length-gain-entries, length-ipma-entries}
 use Rattle.plan_runs.specs.Roles.{its-of}
-use Rattle.plan_positions.proofs.associations.ipma_bytes.Statement.{statement}
-use Rattle.plan_positions.proofs.associations.ipma_bytes.Tie as tie
+use Rattle.plan_sizes.proofs.ipma.ipma_size.Statement.{statement}
+use Rattle.plan_sizes.proofs.ipma.ipma_size.Tie as tie
 
 returns : tie.Need-returns
 returns c =
@@ -27,5 +27,5 @@ returns c =
     let tone = (c7 .when2 .ensures) .0 ∙ (λ i. cond {A = ℕ} (a .s .tone) (head i + (c6 .tone-count .ensures) i) 0) in
     (omega (arith, (c1 .color-entries-size .ensures) .0, (c2 .alpha-entries-size .ensures) .0, image, tone, length-gain-entries f (a .s) its, length-ipma-entries f (a .s) its), omega (arith, (c1 .color-entries-size .ensures) .1, (c2 .alpha-entries-size .ensures) .1, (c5 .when .ensures) .1, (c7 .when2 .ensures) .1, c3 .ids-bytes .ensures .1))
 
-pub ipma-bytes-spec : {M : Type 1} → statement M
-ipma-bytes-spec = tie.close (tie.spec (λ c κs. search needs) (λ c κs. search needs) (λ c κs. search needs) (λ c. search needs) (λ c κs. search needs) (λ c. search needs) (λ c. search needs) (λ c κs. search needs) (λ c κs. search needs) (λ c. search needs) (λ c. search needs) (λ c κs. search needs) (λ c. search needs) (λ c. search needs) (λ c. search needs) (λ c. search needs) returns)
+pub ipma-size-spec : {M : Type 1} → statement M
+ipma-size-spec = tie.close (tie.spec (λ c κs. search needs) (λ c κs. search needs) (λ c κs. search needs) (λ c. search needs) (λ c κs. search needs) (λ c. search needs) (λ c. search needs) (λ c κs. search needs) (λ c κs. search needs) (λ c. search needs) (λ c. search needs) (λ c κs. search needs) (λ c. search needs) (λ c. search needs) (λ c. search needs) (λ c. search needs) returns)

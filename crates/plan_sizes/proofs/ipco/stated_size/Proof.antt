@@ -8,8 +8,8 @@ use Rattle.octets.proofs.Lists.{cond-mul}
 use Rattle.panel.specs.Parts.{has}
 use Rattle.panel.specs.Of.{part, cicp-of}
 use Rattle.plan_sizes.proofs.Caps.{_⊕_, exact, renamed}
-use Rattle.plan_sizes.proofs.properties.stated_size.Statement.{statement}
-use Rattle.plan_sizes.proofs.properties.stated_size.Tie as tie
+use Rattle.plan_sizes.proofs.ipco.stated_size.Statement.{statement}
+use Rattle.plan_sizes.proofs.ipco.stated_size.Tie as tie
 
 returns : tie.Need-returns
 returns c =
