@@ -7,6 +7,7 @@ use panel::Shape;
 use panel::WideItemId;
 use panel::part::when;
 
+// The colour grid's id.
 pub fn color_grid_id(s: Shape) -> WideItemId
     requires { ⌜ Shaped s ⌝ }
     ensures { λ r. ⌜ r .0 ≡ colour-grid s ⌝ }
@@ -22,6 +23,7 @@ pub fn alpha_tile_base(s: Shape) -> WideItemId
     WideItemId(s.tiles + 2)
 }
 
+// The alpha grid's id.
 pub fn alpha_grid_id(s: Shape) -> WideItemId
     requires { ⌜ Shaped s ⌝ }
     ensures { λ r. ⌜ r .0 ≡ alpha-grid s ⌝ }
