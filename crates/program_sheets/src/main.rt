@@ -1,8 +1,17 @@
 // Prints what each of the sheets in data/ is answered, in the order of the arguments, with a line feed behind each answer.
 use libc::STDOUT_FILENO;
+use program_print::Printed;
 use program_print::print_sheet_file;
 
-// The sheet that an argument names, or false where there is none.
+// Whether what a sheet is answered stands on standard output, whole.
+fn is_whole(printed: Printed) -> bool {
+    match printed {
+        Printed::Cut => false,
+        _ => true,
+    }
+}
+
+// Prints what the sheet that an argument names is answered; false where there is none, or where not all of it could be printed.
 fn run(i: usize) -> bool {
     let mut path = [0u8; 64];
     let length = os::arg(i, &mut path);
@@ -16,9 +25,8 @@ fn run(i: usize) -> bool {
     let mut input = [0u8; 12289];
     let n = io::read_full(file, &mut input);
     libc::close(file);
-    print_sheet_file(&input[..n]);
-    io::write_all(STDOUT_FILENO, b"\n");
-    true
+    let printed = print_sheet_file(&input[..n]);
+    is_whole(printed) && io::write_all(STDOUT_FILENO, b"\n")
 }
 
 fn main() {

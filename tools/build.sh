@@ -1,0 +1,127 @@
+# Read by ./panel and bindings/archive: proves and builds a file below target/ unless it is there and no source is newer. Whoever reads it
+# has set `me`, the name that every message begins with, and `home`, the root of the repository.
+#
+# Progress and messages go to standard error alone. What fails ends the script with status 2 and a sentence.
+unset CDPATH
+
+fail() { echo "$me: $1" >&2; exit 2; }
+
+# is_current FILE: whether FILE is there and no source is newer. Sources are code and definitions: while neither changes, what was proved
+# stays proved, whatever the proofs now look like.
+is_current() {
+    [ -f "$home/$1" ] || return 1
+    local newer
+    newer=$(cd "$home" && find crates.txt crates/*/src crates/*/specs -newer "$1" -print -quit 2>/dev/null) ||
+        fail "it can't be told whether $1 is current: not all of $home/crates can be read"
+    [ -z "$newer" ]
+}
+
+# A signal ends what was started, and then this script in the way that its caller expects.
+started=
+stop() {
+    trap - HUP INT TERM
+    if [ -n "$started" ]; then
+        kill -s TERM -- "-$started" 2>/dev/null || kill -s TERM "$started" 2>/dev/null
+        wait "$started" 2>/dev/null
+    fi
+    end_line
+    kill -s "$1" $$
+}
+for signal in HUP INT TERM; do trap "stop $signal" "$signal"; done
+
+# start COMMAND..: starts it behind the script, at the root of the repository and in a process group of its own
+start() {
+    (cd "$home" && exec setsid "$@") &
+    started=$!
+}
+
+# take_turn: waits until no other command proves here. The lock is on crates.txt, which is there in every checkout and outlives target/.
+take_turn() {
+    exec 9<"$home/crates.txt"
+    if ! flock --nonblock 9; then
+        echo "$me: another command is proving here; waiting until it is done" >&2
+        start flock 9
+        wait "$started" || fail "the lock on $home/crates.txt can't be had"
+        started=
+    fi
+}
+
+# crates_below CRATE: the crates of the repository that it stands on
+crates_below() {
+    awk -v crate="$1" '
+        { sub(/#.*/, "") }
+        match($0, /^[^:]*:/) { name = substr($0, 1, RLENGTH - 1); ours[name] = 1; if (name == crate) below = substr($0, RLENGTH + 1) }
+        END { n = split(below, word, " "); for (i = 1; i <= n; i++) if (word[i] in ours) print word[i] }' "$home/crates.txt"
+}
+
+# On a terminal progress is one line that is rewritten; elsewhere each step is a line.
+rewrites=
+[ ! -t 2 ] || rewrites=yes
+line_open=
+end_line() { [ -z "$line_open" ] || echo >&2; line_open=; }
+show() {
+    if [ -n "$rewrites" ]; then
+        printf '\r%s\033[K' "$1" >&2
+        line_open=yes
+    else
+        echo "$1" >&2
+    fi
+}
+
+elapsed() {
+    local seconds=$((SECONDS - began))
+    if [ $seconds -lt 60 ]; then echo "$seconds s"; else echo "$((seconds / 60)) min $((seconds % 60)) s"; fi
+}
+
+# follow LOG COUNT: shows which crate of how many was proved last, until what was started ends; its status
+follow() {
+    local told='' proved name line
+    while kill -0 "$started" 2>/dev/null; do
+        read -r proved name < <(awk '
+            /^rt: [A-Za-z0-9_]+ (proved|NOT PROVED)/ && !($2 in seen) { seen[$2]; n++; name = $2 }
+            END { print n + 0, name }' "$1")
+        line="$me: proved crate $proved of $2${name:+ ($name)}, $(elapsed)"
+        if [ -n "$rewrites" ] || [ "$proved" != "$told" ]; then show "$line"; fi
+        told=$proved
+        sleep 0.2
+    done
+    end_line
+    wait "$started"
+}
+
+# first_error LOG: the first error in it with the lines that belong to it, or the first thing that rt did not call proved
+first_error() {
+    awk '
+        function put(line) { print substr(line, 1, 400) (length(line) > 400 ? " .." : "") }
+        on && (!/^ / || ++more > 5) { exit }
+        on { put($0) }
+        !on && /(^|: )error(\[[a-z-]+\])?:/ { on = 1; put($0) }
+        !on && other == "" && /^rt: / && !/ proved / { other = $0 }
+        END { if (!on && other != "") put(other) }' "$1"
+}
+
+# prove FILE CRATE COMMAND: builds FILE, by a command of the shell that proves CRATE
+prove() {
+    local log=$home/target/log/$2.build began=$SECONDS now=$EPOCHREALTIME count
+    echo "$me: proving and building $1; the first time that takes about four minutes on two cores" >&2
+    count=$(($(crates_below "$2" | wc -l) + 1))
+    start bash -c "$3" >"$log" 2>&1 </dev/null
+    if ! follow "$log" "$count" || [ ! -f "$home/$1" ]; then
+        { first_error "$log" | grep . || head -n 5 "$log"; } >&2
+        fail "$1 was not built; the first error stands above, and everything that was said in $log"
+    fi
+    started=
+    # Sources that were edited since the beginning are newer than the file.
+    touch -d "@${now/,/.}" "$home/$1"
+    echo "$me: built $1 in $(elapsed)" >&2
+}
+
+# build FILE CRATE COMMAND: proves it, unless another command has done so before our turn comes
+build() {
+    command -v rt >/dev/null || fail "the Rattle kit is missing: there is no command rt; README.md says where it comes from"
+    mkdir -p "$home/target/log" 2>/dev/null && [ -w "$home/target/log" ] ||
+        fail "$1 must be built, and $home/target can't be written; copy the repository to a folder that is yours"
+    take_turn
+    is_current "$1" || prove "$@"
+    exec 9<&-
+}
