@@ -243,7 +243,7 @@ for script in panel bindings/archive; do
     chmod 700 "$root/crates/two/src"
     [ -n "$as_user" ] || chmod 000 "$root/crates/two/src"
     run env PATH="$room/kit:$PATH" $as_user "$root/$script" <"$p"
-    holds "$script with a folder that can't be read ends in status 2 and says so in a line" failed_with "$root/crates can be read"
+    holds "$script with a folder that can't be read ends in status 2 and says so in a line" failed_with "$root/crates/two/src can't be read"
     chmod 755 "$root/crates/two/src"
 done
 

@@ -7,13 +7,17 @@ unset CDPATH
 fail() { echo "$me: $1" >&2; exit 2; }
 
 # is_current FILE: whether FILE is there and no source is newer. Sources are code and definitions: while neither changes, what was proved
-# stays proved, whatever the proofs now look like.
+# stays proved, whatever the proofs now look like. A folder is newer than FILE where a file was added or taken away. It is asked at every
+# use, so it starts no process.
 is_current() {
-    [ -f "$home/$1" ] || return 1
-    local newer
-    newer=$(cd "$home" && find crates.txt crates/*/src crates/*/specs -newer "$1" -print -quit 2>/dev/null) ||
-        fail "it can't be told whether $1 is current: not all of $home/crates can be read"
-    [ -z "$newer" ]
+    local each file=$home/$1
+    [ -f "$file" ] || return 1
+    for each in "$home"/crates/*/{src,specs}; do
+        [ -r "$each" ] && [ -x "$each" ] || fail "it can't be told whether $1 is current: $each can't be read"
+    done
+    for each in "$home"/crates.txt "$home"/crates/*/{src,specs}{,/*}; do
+        [ ! "$each" -nt "$file" ] || return 1
+    done
 }
 
 # A signal ends what was started, and then this script in the way that its caller expects.
@@ -78,7 +82,7 @@ follow() {
     local told='' proved name line
     while kill -0 "$started" 2>/dev/null; do
         read -r proved name < <(awk '
-            /^rt: [A-Za-z0-9_]+ (proved|NOT PROVED)/ && !($2 in seen) { seen[$2]; n++; name = $2 }
+            /^rt: [A-Za-z0-9_]+ proved/ && !($2 in seen) { seen[$2]; n++; name = $2 }
             END { print n + 0, name }' "$1")
         line="$me: proved crate $proved of $2${name:+ ($name)}, $(elapsed)"
         if [ -n "$rewrites" ] || [ "$proved" != "$told" ]; then show "$line"; fi
