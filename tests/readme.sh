@@ -1,6 +1,7 @@
 #!/usr/bin/env bash
 # What README.md shows is tried as written: the commands with what they print, the program in C, and the program in Rust. Where there is
-# no python3, the commands that want it are left out and a line says so; with the word `python` in KAHOPIRU_REQUIRE that is a failure.
+# no python3 or no heif-convert, the commands that want it are left out and a line says so; with the word `python` or `readers` in
+# KAHOPIRU_REQUIRE that is a failure.
 set -euo pipefail
 cd "$(dirname "$0")/.."
 . tests/lib/left_out
@@ -34,31 +35,33 @@ for each in bindings crates crates.txt docs examples panel target tools; do ln -
 # Blocks of console: each line behind '$ ' is typed, and what stands below it is what it prints.
 awk '/^```console$/ { on = 1; next } /^```$/ { on = 0 } on { print }' README.md >"$room/console"
 
-# wants_python COMMAND: whether a word of it is a program in Python
-wants_python() {
+# wanting COMMAND: the first thing that a program in it wants and that is not installed, behind its word for KAHOPIRU_REQUIRE
+wanting() {
     local words word
     read -ra words <<<"$1"
     for word in "${words[@]}"; do
-        if [ -f "$word" ] && head -n 1 "$word" | grep -qa '^#!.*python3$'; then return 0; fi
-    done
-    return 1
+        if [ -f "$word" ] && head -n 1 "$word" | grep -qa '^#!.*python3$' && ! command -v python3 >/dev/null; then
+            echo "python python3"
+        elif [ "$word" = examples/picture ] && ! command -v heif-convert >/dev/null; then
+            echo "readers heif-convert"
+        fi
+    done | head -n 1
 }
 
-# Without python3, the commands that want it are taken out of the blocks, each with what it prints.
-if ! command -v python3 >/dev/null; then
-    taken=() stays=yes
-    while IFS= read -r line; do
-        if [[ $line == '$ '* ]]; then
-            stays=yes
-            if wants_python "${line#??}"; then stays=no taken+=("${line#??}"); fi
-        fi
-        [ "$stays" = no ] || printf '%s\n' "$line"
-    done <"$room/console" >"$room/stays"
-    mv "$room/stays" "$room/console"
-    for command in "${taken[@]}"; do left_out python "$command: python3 is not installed"; done
-fi
+# The commands that want what is not there are taken out of the blocks, each with what it prints.
+stays=yes
+while IFS= read -r line; do
+    if [[ $line == '$ '* ]]; then
+        read -r word program < <(wanting "${line#??}") && stays=no || stays=yes
+        [ "$stays" = yes ] || left_out "$word" "${line#??}: $program is not installed" >&2
+    fi
+    [ "$stays" = no ] || printf '%s\n' "$line"
+done <"$room/console" >"$room/stays"
+mv "$room/stays" "$room/console"
 
-./panel </dev/null >"$room/log" 2>&1 || { cat "$room/log" >&2; fail "the program is not built"; }
+status=0
+./panel </dev/null >"$room/log" 2>&1 || status=$?
+[ "$status" = 1 ] || { cat "$room/log" >&2; fail "the program is not built"; }
 sed -n 's/^\$ //p' "$room/console" | while read -r command; do
     printf '$ %s\n' "$command"
     (cd "$room/root" && PYTHONDONTWRITEBYTECODE=1 bash -c "$command" </dev/null 2>&1) || echo "ended with $?"
