@@ -22,6 +22,8 @@ not_ours=(
     hello.c p.sheet                  # the reader's own files
     application/rdf                  # the content type of XMP, up to its +
     requires ensures pub mut         # words of Rattle
+    .antt abbrev unfoldable          # an ending, and words of antt
+    .entry .exit                     # of a contract: what was lent, before and after
     rt must-fail                     # a command of the kit
     os read write close              # the kit's library, and libc's functions
 )
