@@ -18,10 +18,13 @@ trap 'rm -rf "$room"' EXIT
 not_ours=(
     awxkee/hpvca ISO/IEC             # upstream, and those who publish the standards
     ../shared/docs/src               # where upstream's source lies
+    isobmff/gain_map.rs ImageMeta    # a file of upstream's, and a type
     src/ specs/ proofs/ must-fail/   # folders that crates have, and upstream
+    crates/NAME target/              # any crate's folder, and that of what is built
     hello.c p.sheet                  # the reader's own files
     application/rdf                  # the content type of XMP, up to its +
-    requires ensures pub mut         # words of Rattle
+    requires ensures pub mod mut     # words of Rattle
+    Option 'Option<bool>'            # types of Rust's
     .antt abbrev unfoldable          # an ending, and words of antt
     .entry .exit                     # of a contract: what was lent, before and after
     rt must-fail                     # a command of the kit
@@ -75,7 +78,7 @@ look() {
 # text_of DOCUMENT: its text, without blocks of code
 text_of() { awk '/^```/ { on = !on; next } !on' "$1"; }
 
-for document in README.md docs/CLAIMS.md docs/FORMAT.md docs/MAP.md docs/SHEET.md; do
+for document in README.md docs/CLAIMS.md docs/DECISIONS.md docs/FORMAT.md docs/MAP.md docs/SHEET.md; do
     text_of "$document" >"$room/text"
 
     while read -r word; do
@@ -93,7 +96,7 @@ for document in README.md docs/CLAIMS.md docs/FORMAT.md docs/MAP.md docs/SHEET.m
             continue
         fi
         # Of a formula, words of one letter are its variables.
-        for name in $(tr '()&≡' ' ' <<<"$span"); do
+        for name in $(sed 's/[()&]/ /g; s/≡/ /g' <<<"$span"); do
             if [ ${#name} = 1 ] || ! ours "$name"; then continue; fi
             names=$((names + 1))
             case $name in
