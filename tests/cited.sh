@@ -1,10 +1,12 @@
 #!/usr/bin/env bash
-# Every path and every name that README.md, docs/CLAIMS.md and docs/MAP.md cite exists.
+# What the documents cite is there: every path and every name of README.md and of those documents in docs/ that are listed below, and in all
+# documents what a link leads to, the file and the heading in it. The dumps of panel P in docs/FORMAT.md and docs/SHEET.md are P's bytes.
 #
-# A path is every word with a slash, or that ends as a file's name does, in backticks or not. Those in docs/ leave out `crates/`, and an edit's
-# ending; a file's name without a folder is some crate's file. A name is what stands in backticks, or each word of it where it is a formula,
-# and is defined in the crates, the bindings or the tests: a function, type, law or record, or a crate. Where the name is given its crate
-# (`crate::name`) or its place in a folder (`name` (folder/file)), it is defined there. Blocks of code are not looked at; readme.sh tries them.
+# A path is every word with a slash, or that ends as a file's name does, in backticks or not. Those in docs/ leave out `crates/`, and an
+# edit's ending; a file's name without a folder is some crate's file. A name is what stands in backticks, or each word of it where it is a
+# formula, and is defined in the crates, the bindings or the tests: a function, type, variant, law or record, or a crate. Where the name is
+# given its crate (`crate::name`) or its place in a folder (`name` (folder/file)), it is defined there. Bytes (`00 AA`) are no names. Blocks
+# of code are not looked at, but for the dumps and the shell lines that make a sheet; readme.sh tries those of README.md.
 set -euo pipefail
 cd "$(dirname "$0")/.."
 
@@ -16,9 +18,15 @@ trap 'rm -rf "$room"' EXIT
 not_ours=(
     awxkee/hpvca ISO/IEC             # upstream, and those who publish the standards
     ../shared/docs/src               # where upstream's source lies
+    isobmff/gain_map.rs ImageMeta    # a file of upstream's, and a type
     src/ specs/ proofs/ must-fail/   # folders that crates have, and upstream
-    hello.c                          # the reader's own file
-    requires ensures pub mut         # words of Rattle
+    crates/NAME target/              # any crate's folder, and that of what is built
+    hello.c p.sheet                  # the reader's own files
+    application/rdf                  # the content type of XMP, up to its +
+    requires ensures pub mod mut     # words of Rattle
+    Option 'Option<bool>'            # types of Rust's
+    .antt abbrev unfoldable          # an ending, and words of antt
+    .entry .exit                     # of a contract: what was lent, before and after
     rt must-fail                     # a command of the kit
     os read write close              # the kit's library, and libc's functions
 )
@@ -35,12 +43,15 @@ defined() {
         }' {} +
     find crates bindings tests \( -name '*.rt' -o -name '*.rs' \) -exec awk '
         /^ *\/\// { next }
-        match($0, /(fn|struct|enum|const|type) +[A-Za-z_0-9]+/) { split(substr($0, RSTART, RLENGTH), word, / +/); print word[2], FILENAME }' {} +
+        match($0, /(fn|struct|enum|const|type) +[A-Za-z_0-9]+/) { split(substr($0, RSTART, RLENGTH), word, / +/); print word[2], FILENAME }
+        /^ *(pub )?enum .*\{$/ { variants = 1; next }
+        /^ *\}/ { variants = 0 }
+        variants && match($0, /^ *[A-Z][A-Za-z0-9]*/) { name = substr($0, 1, RLENGTH); gsub(/ /, "", name); print name, FILENAME }' {} +
     for crate in crates/*/; do echo "$(basename "$crate") $crate"; done
 }
 defined >"$room/defined"
 
-faults=0 paths=0 names=0 placed=0
+faults=0 paths=0 names=0 placed=0 links=0
 fault() { echo "cited: $1" >&2; faults=$((faults + 1)); }
 
 # path_of WORD: where a path that the document cites lies, if it is there
@@ -64,8 +75,11 @@ look() {
     fi
 }
 
-for document in README.md docs/CLAIMS.md docs/MAP.md; do
-    awk '/^```/ { on = !on; next } !on' "$document" >"$room/text"
+# text_of DOCUMENT: its text, without blocks of code
+text_of() { awk '/^```/ { on = !on; next } !on' "$1"; }
+
+for document in README.md docs/CLAIMS.md docs/DECISIONS.md docs/FORMAT.md docs/MAP.md docs/SHEET.md; do
+    text_of "$document" >"$room/text"
 
     while read -r word; do
         ours "$word" || continue
@@ -76,13 +90,13 @@ for document in README.md docs/CLAIMS.md docs/MAP.md; do
 
     while read -r span; do
         # Paths are looked at above. Several words with a digit or a sign of the shell among them are a command, or what one prints.
-        if [[ $span == */* || $span =~ $file_name ]]; then continue; fi
+        if [[ $span == */* || $span =~ $file_name || $span =~ ^[0-9A-F]{2}(\ [0-9A-F]{2})*$ ]]; then continue; fi
         if [[ $span == *\ *[0-9=,\"]* || $span == *[0-9]*\ * || $span == 'refused N' ]]; then
             echo "cited: in $document a command, or what one prints: $span"
             continue
         fi
         # Of a formula, words of one letter are its variables.
-        for name in $(tr '()&≡' ' ' <<<"$span"); do
+        for name in $(sed 's/[()&]/ /g; s/≡/ /g' <<<"$span"); do
             if [ ${#name} = 1 ] || ! ours "$name"; then continue; fi
             names=$((names + 1))
             case $name in
@@ -102,5 +116,42 @@ for document in README.md docs/CLAIMS.md docs/MAP.md; do
     done < <(grep -oE '(`[^` ]+`(, | and )?)+ \([a-z_]+/[A-Za-z0-9_./-]+' "$room/text")
 done
 
-[ "$faults" = 0 ] || { echo "cited: $faults are wrong of $paths paths and $names names, $placed of them with a place" >&2; exit 1; }
-echo "cited: $paths paths and $names names are there, $placed of them in the place that is given for them"
+# anchors DOCUMENT: what leads to each of its headings: its words in small letters, joined by -
+anchors() { text_of "$1" | sed -nE 's/^#+ +//p' | LC_ALL=C tr 'A-Z ' 'a-z-' | LC_ALL=C sed 's/[^a-z0-9_-]//g'; }
+
+shopt -s nullglob
+for document in *.md docs/*.md examples/*.md bench/*.md bindings/*/*.md; do
+    while read -r target; do
+        links=$((links + 1))
+        case $target in
+            \#*) file=$document ;;
+            *) file=$(dirname "$document")/${target%%#*} ;;
+        esac
+        if [ ! -e "$file" ]; then
+            fault "$document links to $target, which is not there"
+        elif [[ $target == *#* ]] && ! grep -qxF -- "${target#*#}" <(anchors "$file"); then
+            fault "$document links to $target, and $file has no such heading"
+        fi
+    done < <(text_of "$document" | grep -oE '\]\([^) ]+\)' | sed -E 's/^..(.*).$/\1/' | grep -vE '^[a-z]+:' || true)
+done
+
+# dump DOCUMENT: the bytes of its one dump, in hex; each line has the offset of its first byte, the bytes, and two spaces before the words
+dump() {
+    awk '/^```/ { on = !on; next }
+        on && /^ *[0-9]+  [0-9A-F][0-9A-F]( |$)/ {
+            sub(/^ */, ""); at = $1; sub(/^[0-9]+  /, ""); sub(/  .*/, ""); gsub(/ /, "")
+            if (at != n) { print "the line " at " should be " n; exit }
+            n += length($0) / 2
+            printf "%s", tolower($0)
+        }' "$1"
+}
+hex() { od -An -v -tx1 "$1" | tr -d ' \n'; }
+file_of_p=$(awk '$1 == "p" { print $3 }' tests/vectors/upstream.txt)
+[ "$(dump docs/FORMAT.md)" = "$file_of_p" ] || fault "the dump in docs/FORMAT.md is not P's file"
+[ "$(dump docs/SHEET.md)" = "$(hex examples/p.sheet)" ] || fault "the dump in docs/SHEET.md is not P's sheet"
+awk '/^```sh$/ { on = 1; next } /^```$/ { on = 0 } on' docs/SHEET.md >"$room/make"
+(cd "$room" && sh make) && cmp -s "$room/p.sheet" examples/p.sheet || fault "the lines in docs/SHEET.md do not make P's sheet"
+
+found="$paths paths, $names names, $placed of them with a place, and $links links"
+[ "$faults" = 0 ] || { echo "cited: $faults faults in $found" >&2; exit 1; }
+echo "cited: $found lead to what is there, and the dumps of P are its bytes"

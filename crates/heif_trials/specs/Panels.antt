@@ -1,4 +1,4 @@
--- Panel P of document 01, and the panels that differ from it in a field or two.
+-- Panel P, of one tile and nothing optional, and the panels that differ from it in a field or two.
 use mathlib.Core.Option.{Option, none, some}
 use mathlib.Core.List.{List, [], _∷_}
 use Prim.Native.Nat.{ℕ}

@@ -1,4 +1,4 @@
--- Document 01's lettered trials, (a) to (k), in one table.
+-- The lettered trials, (a) to (k), in one table.
 use mathlib.Core.List.{List, [], _∷_}
 use Prim.Native.Nat.{ℕ}
 use Rattle.octets.specs.Numbers.{_‖_, be, text}

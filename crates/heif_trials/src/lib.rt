@@ -1,1 +1,1 @@
-// The lettered trial panels of document 01, computed from the definitions, and the wrong programs that the promises rule out.
+// The lettered trial panels, computed from the definitions, and the wrong programs that the promises rule out.
