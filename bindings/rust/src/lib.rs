@@ -66,6 +66,17 @@ pub use metadata::{BitDepth, ContentLightLevel, Metadata, Orientation};
 pub use panel::{EncodedGainMap, GridDims, Panel, Samples};
 pub use refusal::Refusal;
 
+/// The version of this crate, which the C header has as `KAHOPIRU_VERSION`.
+///
+/// While its first number is 0, the second rises where the file of any panel, a struct, a call or a refusal changes,
+/// the third where nothing of that does. A change of a file's bytes is always told first in the repository's
+/// docs/CHANGES.md.
+///
+/// ```
+/// assert_eq!(kahopiru::VERSION.split('.').count(), 3);
+/// ```
+pub const VERSION: &str = env!("CARGO_PKG_VERSION");
+
 /// The length of the panel's file in bytes, or why the panel is refused.
 ///
 /// Reads the lists of lengths, and of the byte parts little more than their lengths.
