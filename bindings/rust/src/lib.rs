@@ -60,11 +60,13 @@ mod panel;
 mod refusal;
 #[doc(hidden)]
 pub mod sys;
+mod unknown_code;
 
 pub use color::{Cicp, ColorMetadata, MatrixCoefficients, Primaries, TransferFunction};
 pub use metadata::{BitDepth, ContentLightLevel, Metadata, Orientation};
 pub use panel::{EncodedGainMap, GridDims, Panel, Samples};
 pub use refusal::Refusal;
+pub use unknown_code::UnknownCode;
 
 /// The version of this crate, which the C header has as `KAHOPIRU_VERSION`.
 ///
