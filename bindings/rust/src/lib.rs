@@ -58,14 +58,16 @@ mod hand_over;
 mod metadata;
 mod panel;
 mod refusal;
+mod samples;
 #[doc(hidden)]
 pub mod sys;
 mod unknown_code;
 
 pub use color::{Cicp, ColorMetadata, MatrixCoefficients, Primaries, TransferFunction};
 pub use metadata::{BitDepth, ContentLightLevel, Metadata, Orientation};
-pub use panel::{EncodedGainMap, GridDims, Panel, Samples};
+pub use panel::{EncodedGainMap, GridDims, Panel};
 pub use refusal::Refusal;
+pub use samples::{SampleList, SampleTooLong, Samples};
 pub use unknown_code::UnknownCode;
 
 /// The version of this crate, which the C header has as `KAHOPIRU_VERSION`.
