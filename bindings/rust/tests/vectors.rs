@@ -1,7 +1,7 @@
 //! Upstream's own files, kept in tests/vectors/upstream.txt: each line is a name, a panel sheet and the file that
-//! upstream writes for it, in hexadecimal. The binding must write the same bytes.
+//! upstream writes for it, in hexadecimal. The binding must write the same bytes, for the panel and for the sheet.
 
-use kahopiru::{to_vec, BitDepth, Cicp, ColorMetadata, ContentLightLevel, EncodedGainMap, GridDims};
+use kahopiru::{sheet_to_vec, to_vec, BitDepth, Cicp, ColorMetadata, ContentLightLevel, EncodedGainMap, GridDims};
 use kahopiru::{MatrixCoefficients, Metadata, Orientation, Panel, Primaries, Samples, TransferFunction};
 
 const VECTORS: &str = include_str!("../../../tests/vectors/upstream.txt");
@@ -104,6 +104,7 @@ fn the_binding_writes_what_upstream_wrote() {
         let words: Vec<&str> = line.split(' ').collect();
         let [name, sheet, file] = words[..] else { panic!("not a name, a sheet and a file: {line}") };
         assert!(written(&bytes(sheet)) == bytes(file), "{name} differs");
+        assert!(sheet_to_vec(&bytes(sheet)).as_ref() == Ok(&bytes(file)), "{name} differs as a sheet");
         count += 1;
     }
     assert!(count >= 38, "only {count} files are in the list");
