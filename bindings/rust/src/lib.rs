@@ -1,14 +1,22 @@
 //! A HEIF file writer whose every byte is proved.
 //!
 //! A [`Panel`] is a colour picture in tiles, an alpha picture in tiles and, where there is one, a gain map with a tone
-//! map; all of them are already coded as HEVC. [`write`](fn@write) makes one HEIF file of it in room that the caller lends,
-//! [`to_vec`] in a vector, and [`file_length`] says beforehand how long the file will be. A panel that cannot be
-//! written is refused, with a [`Refusal`] that says why; a call that refuses leaves the output as it was. [`tile`] gives
-//! the payload of a tile by its item id.
+//! map; all of them are already coded as HEVC. A panel becomes one HEIF file, or is refused, with a [`Refusal`] that
+//! says why; a call that refuses leaves the output as it was.
+//!
+//! | call | what it does |
+//! |---|---|
+//! | [`file_length`] | says how long the file will be |
+//! | [`write`](fn@write) | writes the file into room that the caller lends |
+//! | [`to_vec`] | makes a vector of it |
+//! | [`write_to`] | writes it to a file, a socket or any other [`std::io::Write`] |
+//! | [`write_sheet`], [`sheet_to_vec`] | write the file of a sheet, which is a panel as one run of bytes |
+//! | [`tile`] | gives the payload of a tile by its item id |
 //!
 //! The code behind these calls is an archive, `libkahopiru.a`, in which every function is proved: the bytes written are
 //! those of a definition of the file, for every panel, and nothing else is touched. This crate only hands the parts
-//! over. It allocates nothing but the vector of [`to_vec`], and has no dependencies.
+//! over. It has no dependencies, and allocates nothing but the vectors of [`to_vec`], [`write_to`], [`sheet_to_vec`]
+//! and [`SampleList`].
 //!
 //! # Example
 //!
@@ -39,16 +47,41 @@
 //! # }
 //! ```
 //!
-//! # Coming from hpvca
+//! # What goes in
 //!
-//! The types have the names and fields of awxkee/hpvca, whose `wrap_hevc_grid_with_alpha` this carries over, with two
-//! changes: byte parts are borrowed, and a picture's tiles are one run of bytes with a list of lengths ([`Samples`]).
-//! Where hpvca panics or writes ids or offsets that have wrapped, a call here refuses.
+//! Records and samples come from an encoder, and are written as they are.
+//!
+//! - The tiles are listed row by row: from left to right, the top row first. Colour and alpha have the same grid.
+//! - A sample is one coded tile as HEIF stores it: its NAL units, each behind its length in 4 bytes, big-endian. It is
+//!   not in the form of Annex B (no start codes `00 00 01`), and has no parameter sets (VPS, SPS, PPS): those are in
+//!   the record. So the record's `lengthSizeMinusOne` must be 3. See [`Samples`]; [`SampleList`] gathers samples that
+//!   lie apart.
+//! - A record is the body of an `hvcC` box (`HEVCDecoderConfigurationRecord`), without the box's own 8 bytes of size
+//!   and type. All tiles of a picture share their parameter sets: there is one record for all colour tiles, and one for
+//!   all alpha tiles. See [`Panel::color_hvcc`].
+//! - Neither records nor samples are looked into, and wrong ones give a file that no reader shows. There is one
+//!   exception, the profile: the low five bits of the second byte of the colour record and of the gain image's record.
+//!   4, range extensions, makes the brand `heix` where it is `heic` else (colour), or adds `heix` to the compatible
+//!   brands (gain image). A record of fewer than two bytes counts as another profile. The alpha record's second byte is
+//!   not looked at.
+//! - Where a picture states no colour, neither by code points nor by a profile, unspecified is written, with full
+//!   range; a panel that states just that has the same file. See [`ColorMetadata`].
+//! - Mirrored orientations show mirrored the other way in today's readers. See [`Orientation`].
+//! - An alternate colour that is empty, or without a tone map, is the same as none. See
+//!   [`EncodedGainMap::alternate_color`].
+//! - A sheet has at most 12,288 bytes. See [`write_sheet`].
+//!
+//! Numbers that come from elsewhere become values by `TryFrom`: code points ([`Primaries`], [`TransferFunction`],
+//! [`MatrixCoefficients`]), bits ([`BitDepth`]) and Exif's orientation ([`Orientation`]). A number that stands for
+//! nothing is an [`UnknownCode`].
+//!
+#![doc = include_str!("../FROM-HPVCA.md")]
 //!
 //! # Linking
 //!
-//! The archive is for x86-64 with the System V calling convention. It is looked for in `target/staticlib` of the
-//! repository, where `rt staticlib kahopiru` writes it, or in the folder that `KAHOPIRU_LIB_DIR` names.
+//! The archive holds ELF code for x86-64 with the System V calling convention (Linux, the BSDs); for other targets the
+//! build ends with a sentence that says so. It is looked for in `target/staticlib` of the repository, where the script
+//! `bindings/archive` builds it, or in the folder that `KAHOPIRU_LIB_DIR` names.
 
 #![warn(missing_docs)]
 #![deny(unsafe_op_in_unsafe_fn)]
