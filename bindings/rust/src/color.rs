@@ -1,5 +1,55 @@
 //! Colour: the code points of ISO/IEC 23091-2 (CICP), and how a picture states its colour.
 
+use crate::unknown_code::{Numbers, UnknownCode};
+
+/// Values by their code points: `from_code`, which finds what `code` gives, and `TryFrom`, which does the same. The
+/// last two of a row are an example: a code point, and the value that has it.
+macro_rules! by_code_point {
+    ($($type:ident $numbers:expr, $code:literal $value:ident;)*) => {$(
+        impl $type {
+            /// The code point.
+            #[must_use]
+            pub const fn code(self) -> u16 {
+                self as u16
+            }
+
+            /// The value with this code point.
+            ///
+            /// # Errors
+            ///
+            /// If there is no such value.
+            ///
+            /// ```
+            #[doc = concat!("use kahopiru::", stringify!($type), ";")]
+            ///
+            #[doc = concat!(
+                "assert_eq!(", stringify!($type), "::from_code(", $code, "), Ok(", stringify!($type), "::",
+                stringify!($value), "));"
+            )]
+            #[doc = concat!("assert!(", stringify!($type), "::from_code(255).is_err());")]
+            /// ```
+            pub fn from_code(code: u16) -> Result<Self, UnknownCode> {
+                $numbers.find(&Self::ALL, Self::code, code)
+            }
+        }
+
+        /// By code point, as `from_code`.
+        impl TryFrom<u16> for $type {
+            type Error = UnknownCode;
+
+            fn try_from(code: u16) -> Result<Self, UnknownCode> {
+                Self::from_code(code)
+            }
+        }
+    )*};
+}
+
+by_code_point! {
+    Primaries Numbers { name: "a code of colour primaries", all: "0 to 2, 4 to 12 or 22" }, 12 Smpte432;
+    TransferFunction Numbers { name: "a code of transfer characteristics", all: "0 to 2 or 4 to 18" }, 16 Smpte2084;
+    MatrixCoefficients Numbers { name: "a code of matrix coefficients", all: "0 to 17" }, 9 Bt2020Ncl;
+}
+
 /// Colour primaries (ISO/IEC 23091-2, table 2).
 #[derive(Clone, Copy, Debug, PartialEq, Eq, Hash, Default)]
 #[repr(u16)]
@@ -50,11 +100,6 @@ impl Primaries {
         Primaries::Smpte432,
         Primaries::Ebu3213,
     ];
-
-    /// The code point.
-    pub const fn code(self) -> u16 {
-        self as u16
-    }
 }
 
 /// Transfer characteristics (ISO/IEC 23091-2, table 3).
@@ -122,11 +167,6 @@ impl TransferFunction {
         TransferFunction::Smpte428,
         TransferFunction::Hlg,
     ];
-
-    /// The code point.
-    pub const fn code(self) -> u16 {
-        self as u16
-    }
 }
 
 /// Matrix coefficients, from RGB to the coded components (ISO/IEC 23091-2, table 4).
@@ -194,11 +234,6 @@ impl MatrixCoefficients {
         MatrixCoefficients::YCgCoRe,
         MatrixCoefficients::YCgCoRo,
     ];
-
-    /// The code point.
-    pub const fn code(self) -> u16 {
-        self as u16
-    }
 }
 
 /// A colour by its code points.
@@ -216,6 +251,7 @@ pub struct Cicp {
 
 impl Cicp {
     /// Unspecified in all three codes, full range: what is written where a picture states no colour at all.
+    #[must_use]
     pub const fn unspecified() -> Self {
         Cicp {
             primaries: Primaries::Unspecified,
@@ -226,6 +262,7 @@ impl Cicp {
     }
 
     /// BT.709 in all three codes, full range.
+    #[must_use]
     pub const fn bt709() -> Self {
         Cicp {
             primaries: Primaries::Bt709,
@@ -236,11 +273,13 @@ impl Cicp {
     }
 
     /// sRGB: BT.709 with sRGB's transfer, full range.
+    #[must_use]
     pub const fn srgb() -> Self {
         Cicp { transfer: TransferFunction::Srgb, ..Cicp::bt709() }
     }
 
     /// BT.2020 with perceptual quantisation, full range.
+    #[must_use]
     pub const fn bt2020_pq() -> Self {
         Cicp {
             primaries: Primaries::Bt2020,
@@ -257,8 +296,10 @@ impl Default for Cicp {
     }
 }
 
-/// How a picture states its colour: by code points, by an ICC profile, by both or by neither. Neither is written as
-/// [`Cicp::unspecified`].
+/// How a picture states its colour: by code points, by an ICC profile, by both or by neither.
+///
+/// Where a picture states neither, a `colr` of type `nclx` is written all the same, with 2, 2, 2 (unspecified) and full
+/// range: [`Cicp::unspecified`]. A panel that states just that has the same file.
 #[derive(Clone, Copy, Debug, PartialEq, Eq, Hash, Default)]
 pub struct ColorMetadata<'a> {
     /// The code points, written as `nclx`.
@@ -269,16 +310,19 @@ pub struct ColorMetadata<'a> {
 
 impl<'a> ColorMetadata<'a> {
     /// By code points alone.
+    #[must_use]
     pub const fn cicp(cicp: Cicp) -> Self {
         ColorMetadata { cicp: Some(cicp), icc: None }
     }
 
     /// By an ICC profile alone.
+    #[must_use]
     pub const fn icc(profile: &'a [u8]) -> Self {
         ColorMetadata { cicp: None, icc: Some(profile) }
     }
 
     /// By code points and an ICC profile.
+    #[must_use]
     pub const fn cicp_and_icc(cicp: Cicp, profile: &'a [u8]) -> Self {
         ColorMetadata { cicp: Some(cicp), icc: Some(profile) }
     }

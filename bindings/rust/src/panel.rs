@@ -1,8 +1,11 @@
 //! A panel: everything that one file is made of.
 
-use crate::{BitDepth, Cicp, ColorMetadata, Metadata};
+use crate::{BitDepth, Cicp, ColorMetadata, Metadata, Samples};
 
 /// The tile grid: its columns and rows, the size of a tile, and the size of the whole picture, in pixels.
+///
+/// The sizes may be any numbers. Today's readers refuse tiles that do not cover the whole picture, and a width or
+/// height above 65,535; the repository's docs/DIFFERENCES.md says more, S4 and S10.
 #[derive(Clone, Copy, Debug, PartialEq, Eq, Hash, Default)]
 pub struct GridDims {
     /// Tiles across, 1 to 256.
@@ -19,21 +22,13 @@ pub struct GridDims {
     pub full_h: u32,
 }
 
-/// The coded tiles of one picture, row by row: how long each is, and all of them back to back.
-#[derive(Clone, Copy, Debug, PartialEq, Eq, Hash, Default)]
-pub struct Samples<'a> {
-    /// The length of each sample, one entry for each tile. A sample may be empty.
-    pub lengths: &'a [u32],
-    /// The samples themselves, back to back; as many bytes as the lengths sum to.
-    pub bytes: &'a [u8],
-}
-
 /// A gain map, already coded: one hidden picture, an XMP packet and, if there is one, a tone map.
 #[derive(Clone, Copy, Debug, PartialEq, Eq, Hash, Default)]
 pub struct EncodedGainMap<'a> {
-    /// The decoder configuration record of the gain image.
+    /// The decoder configuration record of the gain image, in the form of [`Panel::color_hvcc`]. Of it, too, the
+    /// profile is looked at: if it is 4 and the colour record's is not, `heix` is added to the compatible brands.
     pub hvcc: &'a [u8],
-    /// The coded gain image.
+    /// The coded gain image, one picture in the form of a [sample](Samples).
     pub sample: &'a [u8],
     /// Width of the gain image, in pixels.
     pub width: u32,
@@ -47,8 +42,9 @@ pub struct EncodedGainMap<'a> {
     pub xmp: &'a [u8],
     /// The payload of the tone map item, if there is one. It may be empty.
     pub tmap: Option<&'a [u8]>,
-    /// The colour of the picture that the tone map gives. One that states nothing, or that stands beside no tone map,
-    /// is the same as none.
+    /// The colour of the picture that the tone map gives, if it is stated. One that states nothing, or that stands
+    /// beside no tone map, is the same as none: nothing of it is written. (In C its codes are looked at even then, and
+    /// 13 answered; here no code can be wrong.)
     pub alternate_color: Option<ColorMetadata<'a>>,
 }
 
@@ -59,15 +55,22 @@ pub struct Panel<'a> {
     pub dims: GridDims,
     /// Bits of a sample, the same for colour and alpha.
     pub bit_depth: BitDepth,
-    /// The decoder configuration record that all colour tiles share.
+    /// The decoder configuration record that all colour tiles share, and with it their parameter sets.
+    ///
+    /// A record is the body of an `hvcC` box (`HEVCDecoderConfigurationRecord`), without the box's own 8 bytes of size
+    /// and type. It holds the parameter sets (VPS, SPS, PPS), and its `lengthSizeMinusOne` must be 3, since the lengths
+    /// in [samples](Samples) have 4 bytes. A wrong one gives a file that no reader shows: it is not looked into, but
+    /// for the profile, the low five bits of its second byte. If that is 4, range extensions, the file's brand is
+    /// `heix`, else `heic`; a record of fewer than two bytes counts as another profile.
     pub color_hvcc: &'a [u8],
-    /// The decoder configuration record that all alpha tiles share.
+    /// The decoder configuration record that all alpha tiles share, in the form of [`Panel::color_hvcc`]. Its second
+    /// byte is not looked at.
     pub alpha_hvcc: &'a [u8],
-    /// The coded colour tiles.
+    /// The coded colour tiles, row by row.
     pub color_samples: Samples<'a>,
-    /// The coded alpha tiles.
+    /// The coded alpha tiles, row by row.
     pub alpha_samples: Samples<'a>,
-    /// How the picture states its colour.
+    /// How the picture states its colour. [`Default`] states none, and is written as [`Cicp::unspecified`].
     pub color_meta: ColorMetadata<'a>,
     /// Orientation, light level and Exif.
     pub metadata: Metadata<'a>,

@@ -4,7 +4,8 @@ mod common;
 
 use common::{p, with_gain};
 use kahopiru::{
-    file_length, to_vec, write, BitDepth, Cicp, ColorMetadata, ContentLightLevel, Metadata, Orientation, Panel,
+    file_length, to_vec, write, BitDepth, Cicp, ColorMetadata, ContentLightLevel, EncodedGainMap, Metadata,
+    Orientation, Panel,
 };
 
 /// The size and type of the box that begins at an offset.
@@ -104,6 +105,40 @@ fn a_gain_map_brings_its_items_and_brands() {
     // The group: its id 8, two entities, the tone map 7 and the colour grid 2.
     assert!(holds(&file, &[b'a', b'l', b't', b'r', 0, 0, 0, 0, 0, 0, 0, 8, 0, 0, 0, 2, 0, 0, 0, 7, 0, 0, 0, 2]));
     assert_eq!(to_vec(&with_gain(None)).unwrap().len(), 556 + 243 + 3);
+}
+
+#[test]
+fn the_profiles_of_colour_and_gain_image_choose_the_brands() {
+    let brands = |color_hvcc, alpha_hvcc, hvcc| {
+        let gain_map = with_gain(None).gain_map.map(|gain| EncodedGainMap { hvcc, ..gain });
+        let file = to_vec(&Panel { color_hvcc, alpha_hvcc, gain_map, ..p() }).unwrap();
+        let (size, _) = box_at(&file, 0);
+        String::from_utf8(file[8..size].to_vec()).unwrap()
+    };
+    for (color, alpha, gain, expected) in [
+        (&[1, 1][..], &[1, 1][..], &[1, 1][..], "heic\0\0\0\0heicmif1miaf"),
+        (&[1, 4], &[1, 1], &[1, 1], "heix\0\0\0\0heixmif1miaf"),
+        (&[1, 0xE4], &[1, 1], &[1, 1], "heix\0\0\0\0heixmif1miaf"),
+        (&[1, 0x14], &[1, 1], &[1, 1], "heic\0\0\0\0heicmif1miaf"),
+        (&[4], &[1, 1], &[4], "heic\0\0\0\0heicmif1miaf"),
+        (&[], &[1, 4], &[], "heic\0\0\0\0heicmif1miaf"),
+        (&[1, 1], &[1, 1], &[1, 4], "heic\0\0\0\0heicmif1miafheix"),
+        (&[1, 4], &[1, 1], &[1, 4], "heix\0\0\0\0heixmif1miaf"),
+    ] {
+        assert_eq!(brands(color, alpha, gain), expected, "{color:?}, {alpha:?}, {gain:?}");
+    }
+}
+
+#[test]
+fn an_alternate_colour_that_is_empty_or_has_no_tone_map_is_none() {
+    let with = |tmap, alternate_color| {
+        let gain_map = with_gain(tmap).gain_map.map(|gain| EncodedGainMap { alternate_color, ..gain });
+        to_vec(&Panel { gain_map, ..p() }).unwrap()
+    };
+    let stated = Some(ColorMetadata::cicp_and_icc(Cicp::srgb(), &[7]));
+    assert_eq!(with(None, stated), with(None, None));
+    assert_eq!(with(Some(&[]), Some(ColorMetadata::default())), with(Some(&[]), None));
+    assert_ne!(with(Some(&[]), stated), with(Some(&[]), None));
 }
 
 #[test]

@@ -105,15 +105,29 @@ fn short_room_is_refused_and_exact_room_is_filled() {
     assert_eq!(room[556..576], file[536..], "what lay behind the file stays");
 }
 
+/// The refusals in the words that the README, the header and the program have too.
+const WORDS: [(u32, &str); 12] = [
+    (1, "there are no rows or no columns, or more than 256"),
+    (2, "there is not exactly one sample length for each tile, in the colour list or in the alpha list"),
+    (3, "the lengths do not add up to the sample bytes that were handed over"),
+    (4, "there are so many tiles that the last item id would be above 65,535"),
+    (5, "the file would be longer than 4,294,967,295 bytes"),
+    (6, "the room for the file is too short"),
+    (7, "the item id names no tile"),
+    (11, "the sheet ends before its fields do"),
+    (12, "the sheet's map asks for something that there is not, or for a part without the part that it belongs to"),
+    (13, "a depth, an orientation, a colour code or a yes or no is none that exists"),
+    (14, "bytes are left over behind the sheet's last field"),
+    (15, "the sheet has more than 12,288 bytes"),
+];
+
 #[test]
 fn refusals_have_numbers_and_say_what_is_wrong() {
-    for (number, refusal) in [1, 2, 3, 4, 5, 6, 7, 11, 12, 13, 14, 15].into_iter().zip(Refusal::ALL) {
-        assert_eq!(refusal.number(), number);
-        let text = refusal.to_string();
-        assert!(text.len() > 20 && !text.contains('\n'), "{text}");
+    for ((number, words), refusal) in WORDS.into_iter().zip(Refusal::ALL) {
+        assert_eq!((refusal.number(), refusal.to_string().as_str()), (number, words));
     }
     let error: Box<dyn std::error::Error> = Box::new(Refusal::OutputLength);
-    assert_eq!(error.to_string(), "the output is shorter than the file");
+    assert_eq!(error.to_string(), "the room for the file is too short");
 }
 
 #[test]

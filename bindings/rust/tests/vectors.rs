@@ -1,8 +1,8 @@
-//! Upstream's own files, kept in tests/vectors/upstream.txt: each line is a name, a panel sheet and the file that upstream
-//! writes for it, in hexadecimal. The binding must write the same bytes.
+//! Upstream's own files, kept in tests/vectors/upstream.txt: each line is a name, a panel sheet and the file that
+//! upstream writes for it, in hexadecimal. The binding must write the same bytes, for the panel and for the sheet.
 
-use kahopiru::{to_vec, BitDepth, Cicp, ColorMetadata, ContentLightLevel, EncodedGainMap, GridDims, Metadata};
-use kahopiru::{MatrixCoefficients, Orientation, Panel, Primaries, Samples, TransferFunction};
+use kahopiru::{sheet_to_vec, to_vec, BitDepth, Cicp, ColorMetadata, ContentLightLevel, EncodedGainMap, GridDims};
+use kahopiru::{MatrixCoefficients, Metadata, Orientation, Panel, Primaries, Samples, TransferFunction};
 
 const VECTORS: &str = include_str!("../../../tests/vectors/upstream.txt");
 
@@ -43,15 +43,14 @@ impl<'a> Reader<'a> {
     }
 
     fn depth(&mut self) -> BitDepth {
-        BitDepth::ALL[usize::from(self.n8())]
+        BitDepth::from_code(self.n8()).unwrap()
     }
 
     fn cicp(&mut self) -> Cicp {
-        let (primaries, transfer, matrix) = (self.n16(), self.n16(), self.n16());
         Cicp {
-            primaries: Primaries::ALL.into_iter().find(|p| p.code() == primaries).expect("a code of the enum"),
-            transfer: TransferFunction::ALL.into_iter().find(|t| t.code() == transfer).expect("a code of the enum"),
-            matrix: MatrixCoefficients::ALL.into_iter().find(|m| m.code() == matrix).expect("a code of the enum"),
+            primaries: Primaries::from_code(self.n16()).unwrap(),
+            transfer: TransferFunction::from_code(self.n16()).unwrap(),
+            matrix: MatrixCoefficients::from_code(self.n16()).unwrap(),
             full_range: self.n8() == 1,
         }
     }
@@ -75,7 +74,7 @@ fn written(sheet: &[u8]) -> Vec<u8> {
     let alpha_samples = Samples { lengths: &alpha_lengths, bytes: r.take(sum(&alpha_lengths)) };
     let color_meta = ColorMetadata { cicp: has(0).then(|| r.cicp()), icc: has(1).then(|| r.string()) };
     let metadata = Metadata {
-        orientation: if has(2) { Orientation::ALL[usize::from(r.n8())] } else { Orientation::Normal },
+        orientation: if has(2) { Orientation::from_code(r.n8()).unwrap() } else { Orientation::Normal },
         content_light_level: has(3)
             .then(|| ContentLightLevel { max_content_light_level: r.n16(), max_pic_average_light_level: r.n16() }),
         exif: has(4).then(|| r.string()),
@@ -105,6 +104,7 @@ fn the_binding_writes_what_upstream_wrote() {
         let words: Vec<&str> = line.split(' ').collect();
         let [name, sheet, file] = words[..] else { panic!("not a name, a sheet and a file: {line}") };
         assert!(written(&bytes(sheet)) == bytes(file), "{name} differs");
+        assert!(sheet_to_vec(&bytes(sheet)).as_ref() == Ok(&bytes(file)), "{name} differs as a sheet");
         count += 1;
     }
     assert!(count >= 38, "only {count} files are in the list");
