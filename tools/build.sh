@@ -10,13 +10,16 @@ fail() { echo "$me: $1" >&2; exit 2; }
 # stays proved, whatever the proofs now look like. A folder is newer than FILE where a file was added or taken away. It is asked at every
 # use, so it starts no process.
 is_current() {
-    local each file=$home/$1
-    [ -f "$file" ] || return 1
-    for each in "$home"/crates/*/{src,specs}; do
-        [ -r "$each" ] && [ -x "$each" ] || fail "it can't be told whether $1 is current: $each can't be read"
-    done
-    for each in "$home"/crates.txt "$home"/crates/*/{src,specs}{,/*}; do
-        [ ! "$each" -nt "$file" ] || return 1
+    local folder each within file=$home/$1
+    [ -f "$file" ] && [ ! "$home/crates.txt" -nt "$file" ] || return 1
+    for folder in "$home"/crates/*/{src,specs}; do
+        within=("$folder"/*)
+        # Of a folder that is empty or can't be read the pattern is left as it is, and names nothing.
+        [ -e "${within[0]}" ] || { [ -r "$folder" ] && [ -x "$folder" ]; } ||
+            fail "it can't be told whether $1 is current: $folder can't be read"
+        for each in "$folder" "${within[@]}"; do
+            [ ! "$each" -nt "$file" ] || return 1
+        done
     done
 }
 
