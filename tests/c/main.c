@@ -1,6 +1,6 @@
 /*
- * main LIST: writes every panel of the list of upstream's files and meets every refusal, as a caller in C does, with the
- * archive's own calls and with those over parts. Prints what is not so and ends with 1, or prints one line and ends
+ * main LIST: writes every panel of the list of upstream's files and meets every refusal, as a caller in C does, with
+ * the archive's own calls and with those over parts. Prints what is not so and ends with 1, or prints one line and ends
  * with 0.
  */
 #include "trial.h"

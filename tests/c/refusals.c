@@ -202,7 +202,7 @@ static void codes(const given *p) {
     every.panel.gain.has_tmap = 0;
     given none = every;
     none.panel.gain.has_alternate = 0;
-    expect(by->length(&every).length == by->length(&none).length, "an alternate colour without a tone map", "it is none");
+    expect(same_answer(by->length(&every), by->length(&none)), "an alternate colour without a tone map", "it is none");
     NAMES_NOTHING(gain.alternate.has_cicp, 2);
     NAMES_NOTHING(gain.alternate.has_icc, 2);
     CICP_NAMES_NOTHING(gain.alternate.cicp);

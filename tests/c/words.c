@@ -1,5 +1,5 @@
-/* Prints the refusals in words: a line for each number that kahopiru_refusal_text has a text for, with the number, a tab
-   and the text. Wants the header alone, and no archive. */
+/* Prints the refusals in words: a line for each number that kahopiru_refusal_text has a text for, with the number, a
+   tab and the text. Wants the header alone, and no archive. */
 #include "kahopiru.h"
 
 #include <stdio.h>
