@@ -92,7 +92,8 @@
 #include <stdint.h>
 
 /* The version of header and archive, which is the Rust crate's. While the first number is 0, the second rises where a
-   file of any panel, a struct, a call or a refusal changes, and the third where nothing of that does. */
+   file of any panel, a struct, a call or a refusal changes, and the third where nothing of that does. A change of a
+   file's bytes is told first in docs/CHANGES.md. */
 #define KAHOPIRU_VERSION "0.2.0"
 
 #ifdef __cplusplus
@@ -171,7 +172,8 @@ typedef struct {
     kahopiru_cicp cicp;     /* of the gain image */
     kahopiru_color alternate; /* colour of the tone map's picture; not looked at if has_alternate is 0. One that states
                                  neither code points nor a profile, or has no tone map, is the same as none: nothing of
-                                 it is written. But its codes are looked at, tone map or not, and 13 answered */
+                                 it is written. But its codes are looked at, tone map or not, and one that names nothing
+                                 is refused with 13 */
 } kahopiru_gain;
 
 /* The numbers of a panel. Padding between fields is ignored. */
@@ -368,7 +370,7 @@ static inline const char *kahopiru_refusal_text(uint32_t refusal) {
     case KAHOPIRU_SHEET_LENGTH:
         return "the sheet has more than 12,288 bytes";
     default:
-        return "the number is of no refusal that this version has";
+        return "no refusal of this version has this number";
     }
 }
 
