@@ -1,17 +1,19 @@
 /*
- * main LIST: writes every panel of the list of upstream's files and meets every refusal, as a caller in C does. Prints
- * what is not so and ends with 1, or prints one line and ends with 0.
+ * main LIST: writes every panel of the list of upstream's files and meets every refusal, as a caller in C does, with
+ * the archive's own calls and with those over parts. Prints what is not so and ends with 1, or prints one line and ends
+ * with 0.
  */
 #include "trial.h"
 
 #include <stdio.h>
 #include <string.h>
 
+const calls *by;
 static int failures = 0;
 
 void expect(bool holds, const char *name, const char *what) {
     if (!holds) {
-        fprintf(stderr, "c: %s: not so: %s\n", name, what);
+        fprintf(stderr, "c: %s, %s: not so: %s\n", name, by->name, what);
         failures++;
     }
 }
@@ -48,8 +50,12 @@ int main(int count, char **words) {
         fprintf(stderr, "usage: %s LIST\n", words[0]);
         return 2;
     }
-    int panels = try_vectors(words[1]);
-    int refused = try_refusals();
+    int panels = 0, refused = 0;
+    for (by = roads; by < roads + ROADS; by++) {
+        panels += try_vectors(words[1]);
+        refused += try_refusals();
+        try_named();
+    }
     if (failures)
         return 1;
     printf("c: by the header's names, %d panels are written as they should be, and %d calls refused\n", panels, refused);

@@ -18,6 +18,24 @@ static const struct {
     {15, KAHOPIRU_SHEET_LENGTH},
 };
 
+static const char *text_of(uint32_t refusal) {
+    return named_kahopiru_refusal_text((kahopiru_refusal_text_arguments){.refusal = refusal});
+}
+
+/* Each has the specification's number and a text that is no other number's. */
+static void numbers_and_texts(void) {
+    const char *unknown = text_of(UINT32_MAX);
+    expect(unknown && *unknown, "a number that is no refusal's", "it has a text");
+    expect(strcmp(text_of(KAHOPIRU_ACCEPTED), "accepted") == 0, "the refusals", "the text of 0 is accepted");
+    for (size_t i = 0; i < sizeof specified / sizeof *specified; i++) {
+        expect(specified[i].constant == specified[i].number, "the refusals", "each has the specification's number");
+        const char *text = text_of(specified[i].constant);
+        expect(text && strcmp(text, unknown) != 0, "the refusals", "each has a text");
+        for (size_t k = 0; text && k < i; k++)
+            expect(strcmp(text, text_of(specified[k].constant)) != 0, text, "it is the text of one refusal");
+    }
+}
+
 /* The calls, what the specification lets each refuse with (a bit for each number), and what it has refused with here. */
 enum call { LENGTH, WRITE, TILE, SHEET, CALLS };
 static const uint32_t possible[CALLS] = {
@@ -48,12 +66,12 @@ static void refused_answer(enum call call, kahopiru_answer found, uint32_t const
 /* The length call and the writing call refuse a panel. */
 static void refused(const given *g, uint32_t constant, const char *why) {
     uint8_t *out = lend_room();
-    refused_answer(LENGTH, call_length(g), constant, why);
-    refused_answer(WRITE, call_write(g, out, ROOM), constant, why);
+    refused_answer(LENGTH, by->length(g), constant, why);
+    refused_answer(WRITE, by->write(g, out, ROOM), constant, why);
 }
 
 static void refused_tile(const given *g, uint16_t id, uint32_t constant, const char *why) {
-    kahopiru_tile_place found = call_tile(g, id);
+    kahopiru_tile_place found = by->tile(g, id);
     look(TILE, found.refusal, constant, why);
     expect(found.alpha == 0 && found.start == 0 && found.length == 0, why, "the place answered is 0");
 }
@@ -118,7 +136,7 @@ static void ids(const given *p) {
     g.panel.rows = 129;
     g.color_lengths = g.alpha_lengths = (numbers){zeros, JUST};
     g.panel.has_exif = 1;
-    expect(call_length(&g).refusal == KAHOPIRU_ACCEPTED, "254 x 129 tiles and Exif", "it is accepted");
+    expect(by->length(&g).refusal == KAHOPIRU_ACCEPTED, "254 x 129 tiles and Exif", "it is accepted");
     g.panel.has_exif = 0;
     g.panel.has_gain = 1;
     refused(&g, KAHOPIRU_ITEM_IDS, "254 x 129 tiles and a gain map");
@@ -137,7 +155,7 @@ static void too_long(const given *p) {
     given g = *p;
     g.panel.has_exif = g.panel.has_gain = g.panel.gain.has_tmap = g.panel.color.has_icc = 1;
     g.color_hvcc = g.alpha_hvcc = g.icc = g.exif = g.gain_hvcc = g.gain_sample = g.xmp = part;
-    expect(call_length(&g).refusal == KAHOPIRU_ACCEPTED, "a file of less than 4 GiB", "it is accepted");
+    expect(by->length(&g).refusal == KAHOPIRU_ACCEPTED, "a file of less than 4 GiB", "it is accepted");
     g.tone_map = part;
     refused(&g, KAHOPIRU_FILE_LENGTH, "a file of more than 4 GiB");
     free(memory);
@@ -148,7 +166,7 @@ static void codes(const given *p) {
     given every = *p;
     every.panel.has_gain = every.panel.gain.has_tmap = every.panel.gain.has_alternate = 1;
     every.panel.color.has_cicp = every.panel.gain.alternate.has_cicp = 1;
-    expect(call_length(&every).refusal == KAHOPIRU_ACCEPTED, "every code", "it is accepted");
+    expect(by->length(&every).refusal == KAHOPIRU_ACCEPTED, "every code", "it is accepted");
 #define NAMES_NOTHING(field, code)              \
     do {                                        \
         given g = every;                        \
@@ -179,6 +197,15 @@ static void codes(const given *p) {
     NAMES_NOTHING(gain.alternate.has_cicp, 2);
     NAMES_NOTHING(gain.alternate.has_icc, 2);
     CICP_NAMES_NOTHING(gain.alternate.cicp);
+
+    /* Without a tone map the alternate colour is none, but its codes are looked at all the same. */
+    every.panel.gain.has_tmap = 0;
+    given none = every;
+    none.panel.gain.has_alternate = 0;
+    expect(same_answer(by->length(&every), by->length(&none)), "an alternate colour without a tone map", "it is none");
+    NAMES_NOTHING(gain.alternate.has_cicp, 2);
+    NAMES_NOTHING(gain.alternate.has_icc, 2);
+    CICP_NAMES_NOTHING(gain.alternate.cicp);
 }
 
 /* P's sheet with another byte at a place. */
@@ -205,10 +232,27 @@ static void sheets(void) {
     refused_sheet(p, 555, KAHOPIRU_OUTPUT_LENGTH, "P's sheet into 555 bytes");
 }
 
-int try_refusals(void) {
-    for (size_t i = 0; i < sizeof specified / sizeof *specified; i++)
-        expect(specified[i].constant == specified[i].number, "the refusals", "each has the specification's number");
+/* A sheet of 12,288 bytes whose tiles are many and empty: its file is too long for the program, and for 140,000 bytes
+   none is. */
+static void long_sheet(void) {
+    enum { COLS = 51, ROWS = 30, RECORD_LENGTH = 23, REST = MOST_SHEET - 31 - 8 * COLS * ROWS };
+    static uint8_t file[140000];
+    memset(changed, 0, sizeof changed);
+    changed[3] = COLS;
+    changed[5] = ROWS;
+    changed[RECORD_LENGTH + 3] = REST;
+    const bytes sheet = {changed, MOST_SHEET};
+    refused_sheet(sheet, ROOM, KAHOPIRU_OUTPUT_LENGTH, "a sheet of 1,530 tiles");
+    const kahopiru_answer answer = call_sheet(sheet, file, 32768);
+    expect(answer.refusal == KAHOPIRU_OUTPUT_LENGTH, "a sheet of 1,530 tiles", "32,768 bytes are too short for it");
+    expect(same_answer(call_sheet(sheet, file, sizeof file), (kahopiru_answer){.refusal = 0, .length = 136648}),
+           "a sheet of 1,530 tiles", "140,000 bytes are enough for it");
+}
 
+int try_refusals(void) {
+    numbers_and_texts();
+    memset(met, 0, sizeof met);
+    refused_calls = 0;
     uint32_t lengths[P_BYTES];
     given p = read_sheet(from_hex(p_digits, p_sheet), lengths, false);
     sides(&p);
@@ -216,9 +260,10 @@ int try_refusals(void) {
     ids(&p);
     too_long(&p);
     uint8_t *out = lend_room();
-    refused_answer(WRITE, call_write(&p, out, 555), KAHOPIRU_OUTPUT_LENGTH, "P into 555 bytes");
+    refused_answer(WRITE, by->write(&p, out, 555), KAHOPIRU_OUTPUT_LENGTH, "P into 555 bytes");
     codes(&p);
     sheets();
+    long_sheet();
 
     static const char *const names[CALLS] = {"the length call", "the writing call", "the tile call", "the sheet call"};
     for (int call = 0; call < CALLS; call++)

@@ -29,10 +29,18 @@ typedef struct {
     bytes icc, exif, gain_hvcc, gain_sample, xmp, tone_map, alternate_icc;
 } given;
 
-/* calls.c: the four calls, each by the names of its parameters. */
-kahopiru_answer call_length(const given *g);
-kahopiru_answer call_write(const given *g, uint8_t *out, size_t out_len);
-kahopiru_tile_place call_tile(const given *g, uint16_t id);
+/* calls.c: the calls of a panel, each by the names of its parameters: as the archive has them, and over parts. */
+typedef struct {
+    const char *name;
+    kahopiru_answer (*length)(const given *g);
+    kahopiru_answer (*write)(const given *g, uint8_t *out, size_t out_len);
+    kahopiru_tile_place (*tile)(const given *g, uint16_t id);
+} calls;
+enum { ROADS = 2 };
+extern const calls roads[ROADS];
+/* main.c: those of the two that are tried now. */
+extern const calls *by;
+/* calls.c: the sheet call, by the names of its parameters. */
 kahopiru_answer call_sheet(bytes sheet, uint8_t *out, size_t out_len);
 
 /* reader.c: the panel that a good sheet says, its lengths read into room for as many as the sheet has bytes. Codes and
@@ -45,6 +53,8 @@ bytes from_hex(const char *digits, uint8_t *room);
 int try_vectors(const char *path);
 /* refusals.c: every refusal of every call is met. Answers how many refused calls there were. */
 int try_refusals(void);
+/* named.c: the code points that have a name are written as they should be. */
+void try_named(void);
 
 /* main.c: says what is not so, with the name of the panel at which it is not. */
 void expect(bool holds, const char *name, const char *what);

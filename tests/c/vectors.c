@@ -15,13 +15,13 @@ static const bytes nothing = {NULL, 0};
 /* The length call answers the file's length, and the writing call gives the file where there is room. */
 static void try_panel(const char *name, const given *g, bytes file) {
     uint8_t *out = lend_room();
-    expect(same_answer(call_length(g), accepted(file)), name, "the length call answers the file's length");
-    expect(same_answer(call_write(g, out, file.count - 1), short_room), name, "a room one byte short is refused");
+    expect(same_answer(by->length(g), accepted(file)), name, "the length call answers the file's length");
+    expect(same_answer(by->write(g, out, file.count - 1), short_room), name, "a room one byte short is refused");
     expect(room_holds(nothing), name, "a refused call leaves the room as it was");
-    expect(same_answer(call_write(g, out, file.count), accepted(file)), name, "a room of the file's length is enough");
+    expect(same_answer(by->write(g, out, file.count), accepted(file)), name, "a room of the file's length is enough");
     expect(room_holds(file), name, "the file is as it should be, and nothing is written around it");
     out = lend_room();
-    expect(same_answer(call_write(g, out, ROOM), accepted(file)), name, "a longer room is taken as well");
+    expect(same_answer(by->write(g, out, ROOM), accepted(file)), name, "a longer room is taken as well");
     expect(room_holds(file), name, "the file is as it should be, and the room behind it as it was");
 }
 
@@ -49,7 +49,7 @@ static void try_tiles(const char *name, const given *g) {
             for (size_t i = 0; i < tile; i++)
                 wanted.start += lengths[i];
         }
-        kahopiru_tile_place found = call_tile(g, (uint16_t)id);
+        kahopiru_tile_place found = by->tile(g, (uint16_t)id);
         expect(found.refusal == wanted.refusal, name, "an id is a tile's if it should be");
         expect(found.alpha == wanted.alpha, name, "a tile is of colour or of alpha as its id says");
         expect(found.start == wanted.start && found.length == wanted.length, name, "a tile lies where its lengths say");
