@@ -159,11 +159,11 @@ new_root() {
     cp panel "$root"
     cp bindings/archive "$root/bindings"
     cp tools/build.sh "$root/tools" 2>/dev/null
-    for crate in one two three kahopiru program_panel; do
-        mkdir -p "$root/crates/$crate/src" "$root/crates/$crate/specs"
+    for crate in one two three kahopiru program_panel other; do
+        mkdir -p "$root/crates/$crate/src" "$root/crates/$crate/specs" "$root/crates/$crate/proofs"
         touch "$root/crates/$crate/src/lib.rt"
     done
-    printf 'one:\n\ntwo: one\nthree: one\n\nkahopiru: one two three\n\nprogram_panel: one two three io\n' >"$root/crates.txt"
+    printf 'one:\n\ntwo: one\nthree: one\n\nkahopiru: one two three\n\nprogram_panel: one two three io\nother: one\n' >"$root/crates.txt"
 }
 # used SCRIPT: a use of a script in that repository, with the kit that pretends
 used() { PATH=$room/kit:$PATH "$root/$1" <"$p"; }
@@ -180,6 +180,9 @@ for script in panel bindings/archive; do
     run used $script
     holds "$script proves once, and is then silent" all ended 0 , silent , runs "$before"
     sleep 0.1
+    touch "$root/crates/other/src/lib.rt" "$root/crates/two/proofs"
+    run used $script
+    holds "$script does not prove again for a crate that it does not stand on, nor for a proof" all ended 0 , silent , runs "$before"
     touch "$root/crates/two/src/lib.rt"
     run used $script
     holds "$script proves again when a source is newer" all ended 0 , [ "$(wc -l <"$room/runs")" -gt "$before" ]

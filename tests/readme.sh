@@ -1,7 +1,7 @@
 #!/usr/bin/env bash
 # What README.md shows is tried as written: the commands with what they print, the program in C, and the program in Rust. Where there is
-# no python3 or no heif-convert, the commands that want it are left out and a line says so; with the word `python` or `readers` in
-# KAHOPIRU_REQUIRE that is a failure.
+# no python3, heif-convert or pkg-config, the commands that want it are left out and a line says so; with the word `python`, `readers` or
+# `pkg-config` in KAHOPIRU_REQUIRE that is a failure.
 set -euo pipefail
 cd "$(dirname "$0")/.."
 . tests/lib/left_out
@@ -44,6 +44,8 @@ wanting() {
             echo "python python3"
         elif [ "$word" = examples/picture ] && ! command -v heif-convert >/dev/null; then
             echo "readers heif-convert"
+        elif [ "$word" = pkg-config ] && ! command -v pkg-config >/dev/null; then
+            echo "pkg-config pkg-config"
         fi
     done | head -n 1
 }
@@ -70,7 +72,7 @@ diff "$room/console" "$room/printed" >&2 || fail "the commands print something e
 block c >"$room/root/hello.c"
 commands=$(block sh)
 bindings/archive
-prints "cd '$room/root'; ${commands//bindings\/archive/true}" 'refusal 0, 556 bytes'
+prints "cd '$room/root'; ${commands//bindings\/archive/true}" 'accepted, 556 bytes'
 
 mkdir -p "$room/rust/src"
 block rust >"$room/rust/src/main.rs"

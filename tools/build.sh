@@ -6,19 +6,35 @@ unset CDPATH
 
 fail() { echo "$me: $1" >&2; exit 2; }
 
-# is_current FILE: whether FILE is there and no source is newer. Sources are code and definitions: while neither changes, what was proved
-# stays proved, whatever the proofs now look like. A folder is newer than FILE where a file was added or taken away. It is asked at every
-# use, so it starts no process.
+# crates_below CRATE: sets `crates` to the crates of the repository that it stands on
+crates_below() {
+    local lines line words= word
+    mapfile -t lines <"$home/crates.txt" || fail "$home/crates.txt can't be read"
+    for line in "${lines[@]}"; do
+        if [[ $line == "$1:"* ]]; then words=${line#*:}; fi
+    done
+    crates=()
+    for word in ${words%%#*}; do
+        if [ -d "$home/crates/$word" ]; then crates+=("$word"); fi
+    done
+}
+
+# is_current FILE CRATE: whether FILE, which CRATE is built to, is there and no source of it is newer. Sources are code and definitions:
+# while neither changes, what was proved stays proved, whatever the proofs now look like. A folder is newer than FILE where a file was
+# added or taken away. It is asked at every use, so it starts no process.
 is_current() {
-    local folder each within file=$home/$1
+    local crate folder each within file=$home/$1
     [ -f "$file" ] && [ ! "$home/crates.txt" -nt "$file" ] || return 1
-    for folder in "$home"/crates/*/{src,specs}; do
-        within=("$folder"/*)
-        # Of a folder that is empty or can't be read the pattern is left as it is, and names nothing.
-        [ -e "${within[0]}" ] || { [ -r "$folder" ] && [ -x "$folder" ]; } ||
-            fail "it can't be told whether $1 is current: $folder can't be read"
-        for each in "$folder" "${within[@]}"; do
-            [ ! "$each" -nt "$file" ] || return 1
+    crates_below "$2"
+    for crate in "${crates[@]}" "$2"; do
+        for folder in "$home/crates/$crate"/{src,specs}; do
+            within=("$folder"/*)
+            # Of a folder that is absent, is empty or can't be read the pattern is left as it is, and names nothing.
+            [ -e "${within[0]}" ] || { [ -r "$folder" ] && [ -x "$folder" ]; } || { [ ! -e "$folder" ] && [ -x "$home/crates/$crate" ]; } ||
+                fail "it can't be told whether $1 is current: $folder can't be read"
+            for each in "$folder" "${within[@]}"; do
+                [ ! "$each" -nt "$file" ] || return 1
+            done
         done
     done
 }
@@ -51,14 +67,6 @@ take_turn() {
         wait "$started" || fail "the lock on $home/crates.txt can't be had"
         started=
     fi
-}
-
-# crates_below CRATE: the crates of the repository that it stands on
-crates_below() {
-    awk -v crate="$1" '
-        { sub(/#.*/, "") }
-        match($0, /^[^:]*:/) { name = substr($0, 1, RLENGTH - 1); ours[name] = 1; if (name == crate) below = substr($0, RLENGTH + 1) }
-        END { n = split(below, word, " "); for (i = 1; i <= n; i++) if (word[i] in ours) print word[i] }' "$home/crates.txt"
 }
 
 # On a terminal progress is one line that is rewritten; elsewhere each step is a line.
@@ -109,11 +117,11 @@ first_error() {
 
 # prove FILE CRATE COMMAND: builds FILE, by a command of the shell that proves CRATE
 prove() {
-    local log=$home/target/log/$2.build began=$SECONDS now=$EPOCHREALTIME count
+    local log=$home/target/log/$2.build began=$SECONDS now=$EPOCHREALTIME
     echo "$me: proving and building $1; the first time that takes about four minutes on two cores" >&2
-    count=$(($(crates_below "$2" | wc -l) + 1))
+    crates_below "$2"
     start bash -c "$3" >"$log" 2>&1 </dev/null
-    if ! follow "$log" "$count" || [ ! -f "$home/$1" ]; then
+    if ! follow "$log" $((${#crates[@]} + 1)) || [ ! -f "$home/$1" ]; then
         { first_error "$log" | grep . || head -n 5 "$log"; } >&2
         fail "$1 was not built; the first error stands above, and everything that was said in $log"
     fi
@@ -129,6 +137,6 @@ build() {
     mkdir -p "$home/target/log" 2>/dev/null && [ -w "$home/target/log" ] ||
         fail "$1 must be built, and $home/target can't be written; copy the repository to a folder that is yours"
     take_turn
-    is_current "$1" || prove "$@"
+    is_current "$1" "$2" || prove "$@"
     exec 9<&-
 }

@@ -262,7 +262,7 @@ kahopiru_tile_place kahopiru_tile(
    it if refused, keeps what it had. out overlaps no byte of the sheet.
 
    A sheet has at most 12,288 bytes; docs/SHEET.md says what is in it. Its file can be longer, since each tile costs 89
-   bytes beside its samples; 140,000 bytes of room are enough for every sheet. The program behind ./panel has room for
+   bytes beside its samples; 136,862 bytes of room are enough for every sheet. The program behind ./panel has room for
    32,768 bytes: 6 there says that the file would be longer, and the sheet's author can make fewer tiles or hand the
    sheet to this call. */
 kahopiru_answer kahopiru_sheet(const uint8_t *sheet, size_t sheet_len, uint8_t *out, size_t out_len);

@@ -278,6 +278,13 @@ impl Cicp {
         Cicp { transfer: TransferFunction::Srgb, ..Cicp::bt709() }
     }
 
+    /// Display P3: the primaries of SMPTE EG 432-1 with sRGB's transfer, full range. The matrix is BT.709's, as in
+    /// [`Cicp::srgb`]; where the encoder made the components by another one, set `matrix` to that.
+    #[must_use]
+    pub const fn display_p3() -> Self {
+        Cicp { primaries: Primaries::Smpte432, ..Cicp::srgb() }
+    }
+
     /// BT.2020 with perceptual quantisation, full range.
     #[must_use]
     pub const fn bt2020_pq() -> Self {
