@@ -49,7 +49,7 @@ class _Entry:
 
     item: Item
     summary: str
-    place: str | None  # where its one payload lies, in words; none where it has more than one, or not all of it is there
+    place: str | None  # where its one payload lies, in words; none where it has several, or a part of it alone is there
     references: list
 
 
