@@ -1,5 +1,7 @@
-"""What readers refuse in a file, one sentence for each: libheif, ImageMagick, ffmpeg and exiftool, as docs/DIFFERENCES.md has
-it, and decoders of HEVC. Findings that are alike are one sentence for all their items."""
+"""What readers refuse in a file, one sentence for each; findings that are alike are one sentence for all their items.
+
+Seen with real readers are an extent of length 0, Exif behind its marker, tiles that do not cover their grid, and a grid's flags
+(S2, S3, S4 and S10 of docs/DIFFERENCES.md). The others are what the standards ask for; what readers do there is recalled."""
 
 from . import grids, hevc, metadata, properties
 from .boxes import NotHeif, body
