@@ -1,38 +1,38 @@
 """What a property says, in words."""
 
+from . import hevc, metadata
 from .boxes import body
+from .fold import plural
 
 PROFILES = {1: "Main", 2: "Main 10", 3: "Main Still Picture", 4: "range extensions"}
-CHROMA = {0: "4:0:0", 1: "4:2:0", 2: "4:2:2", 3: "4:4:4"}
 PRIMARIES = {1: "BT.709", 2: "unspecified", 9: "BT.2020", 12: "Display P3"}
 TRANSFERS = {1: "BT.709", 2: "unspecified", 8: "linear", 13: "sRGB", 16: "PQ", 18: "HLG"}
 MATRICES = {0: "identity", 1: "BT.709", 2: "unspecified", 5: "BT.601", 6: "BT.601", 9: "BT.2020"}
 TURNS = {0: "no turn", 1: "a quarter turn anticlockwise", 2: "half a turn", 3: "a quarter turn clockwise"}
 
 
-def plural(count, what):
-    return f"{count} {what}" if count == 1 else f"{count} {what}s"
-
-
 def _hvcc(part):
-    length = part.end - part.at
-    if length < 23:
-        return f"HEVC decoder record of {plural(length, 'byte')}, too short to be one"
-    record = part.rest()
-    profile = record[1] & 31
-    depth = 8 + (record[17] & 7)
-    named = PROFILES.get(profile, f"profile {profile}")
-    return f"HEVC decoder record of {length} bytes: {named}, {CHROMA[record[16] & 3]}, {depth} bits"
+    said = f"HEVC decoder record of {plural(part.left, 'byte')}"
+    record = hevc.record(part.rest())
+    if record is None:
+        return f"{said}, too short to be one"
+    return f"{said}: {PROFILES.get(record.profile, f'profile {record.profile}')}, {record.words}"
+
+
+def size(part):
+    """Width and height of an ispe."""
+    return part.number(4), part.number(4)
 
 
 def _ispe(part):
-    return f"{part.number(4)} × {part.number(4)} pixels"
+    width, height = size(part)
+    return f"{width} × {height} pixels"
 
 
 def _colr(part):
     kind = part.four()
     if kind != "nclx":
-        return f"ICC profile of {plural(part.end - part.at, 'byte')}" if kind in ("prof", "rICC") else f"colour as {kind}"
+        return metadata.icc(part.rest()) if kind in ("prof", "rICC") else f"colour as {kind}"
     codes = [part.number(2) for _ in range(3)]
     full = "full range" if part.number(1) >> 7 else "video range"
     named = [table.get(code, "see ISO/IEC 23091-2") for table, code in zip((PRIMARIES, TRANSFERS, MATRICES), codes)]
@@ -40,9 +40,18 @@ def _colr(part):
     return f"code points {', '.join(map(str, codes))} ({', '.join(same)}), {full}"
 
 
+def depths(part):
+    """The bits of each channel of a pixi."""
+    return [part.number(1) for _ in range(part.number(1))]
+
+
+def channels(bits):
+    """Channels and their bits in words."""
+    return f"{plural(len(bits), 'channel')} of {', '.join(map(str, sorted(set(bits)))) or 'no'} bits"
+
+
 def _pixi(part):
-    depths = [part.number(1) for _ in range(part.number(1))]
-    return f"{plural(len(depths), 'channel')} of {', '.join(map(str, sorted(set(depths)))) or 'no'} bits"
+    return channels(depths(part))
 
 
 def _auxc(part):
@@ -73,4 +82,4 @@ def words(data, box):
     """The property in words; of a type that is not known, its length."""
     part = body(data, box)
     say = SAYINGS.get(box.kind)
-    return say(part) if say else plural(part.end - part.at, "byte")
+    return say(part) if say else plural(part.left, "byte")

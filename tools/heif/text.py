@@ -1,10 +1,15 @@
-"""A file as plain text: its boxes with offsets and sizes, then its items and properties in words."""
+"""A file as plain text: its boxes with offsets and sizes, then its properties and items in words. Runs that are alike are
+drawn together."""
 
-from .boxes import body, brands_of
-from .properties import plural
+import bisect
+import dataclasses
 
+from . import fold, grids, metadata
+from .fold import plural
+from .items import IN_FILE, IN_IDAT, Item
+from .rows import Rows, follows, refer
 
-MEANINGS = {"iloc": "where each item's payload lies", "ipma": "which properties each item has"}
+XMP_TYPE = "application/rdf+xml"
 
 
 def show(data, found, contents):
@@ -12,111 +17,153 @@ def show(data, found, contents):
     yield f"{plural(len(data), 'byte')}"
     yield ""
     yield "  offset      size  box"
-    for box in found:
-        yield from _tree(data, box, 0, contents)
+    yield from _tree(Rows(data, contents).of(found.boxes))
     yield ""
-    yield "properties"
-    for position, (box, words) in enumerate(contents.properties, 1):
-        yield f"  {position:>3}  {box.kind}  {words}"
+    yield from _properties(contents)
     yield ""
-    yield "items (* marks a property that a reader must understand)"
-    for item in contents.items.values():
-        yield from _item(data, item, contents)
+    yield from _Items(data, found, contents).lines()
     for kind, number, members in contents.groups:
         yield ""
-        yield f"group {number}, {kind}: items {_list(members)} are alternatives; a reader shows the first that it can"
+        yield f"group {number}, {kind}: {fold.named('item', members)} are alternatives; a reader shows the first that it can"
 
 
-def _tree(data, box, depth, contents):
-    note = note_of(data, box, contents)
-    yield f"{box.start:>8}  {box.size:>8}  {'  ' * depth}{box.kind}{'  ' if note else ''}{note}"
-    for inner in box.within:
-        yield from _tree(data, inner, depth + 1, contents)
+def _tree(rows, indent=""):
+    lines = []
+    for row in rows:
+        lines.append(f"{row.start:>8}  {row.size:>8}  {indent}{row.label}{'  ' if row.note else ''}{row.note}")
+        lines += _tree(row.within, f"{indent}  ") if row.within else []
+    return lines
 
 
-def note_of(data, box, contents):
-    """What a line of the tree says beside offset, size and type."""
-    if box.kind == "ftyp":
-        brand, *others = brands_of(data, box)
-        return f"brand {brand}, compatible with {', '.join(others) or 'none'}"
-    if box.kind == "hdlr":
-        part = body(data, box)
-        part.number(4)
-        return f"handler {part.four()}"
-    if box.kind == "pitm":
-        return f"primary item {contents.primary}"
-    if box.kind == "infe":
-        item = contents.items[body(data, box).number(2 if box.version == 2 else 4)]
-        return f"item {item.number}, {item.kind}{', hidden' if item.hidden else ''}"
-    if box.kind == "iinf":
-        return plural(len(contents.items), "item")
-    if box.kind in MEANINGS:
-        return MEANINGS[box.kind]
-    for start, kind, source, targets in contents.references:
-        if start == box.start:
-            return f"item {source}: {_refers(kind, targets)}"
-    for position, (known, _) in enumerate(contents.properties, 1):
-        if known.start == box.start:
-            return f"property {position}"
-    return ""
+def _properties(contents):
+    yield "properties" if contents.properties else "no properties can be read"
+    numbered = [(position, box.kind, words) for position, (box, words) in enumerate(contents.properties, 1)]
+    for run in fold.runs(numbered, lambda a, b: True if a[1:] == b[1:] else None):
+        position, kind, words = run[0]
+        yield f"  {position:>3}  {kind}  {words}" if len(run) == 1 else f"  {position} to {run[-1][0]}  {kind}  {words}"
 
 
-def _item(data, item, contents):
-    marks = ["primary"] if item.number == contents.primary else []
-    marks += ["hidden"] if item.hidden else []
-    marks += [item.content_type] if item.content_type else []
-    yield f"  item {item.number}, {', '.join([item.kind, *marks])}{_summary(data, item)}"
-    where = "idat" if item.in_idat else "mdat"
-    for offset, length in item.extents:
-        yield f"      payload     {plural(length, 'byte')} at {offset} in {where}"
-        if length == 0:
-            yield "                  (a reader may take length 0 for the whole file)"
-    if item.associations:
-        named = [_named(position, essential, contents) for position, essential in item.associations]
-        yield f"      properties  {', '.join(named)}"
-    for _, kind, source, targets in contents.references:
-        if source == item.number:
-            yield f"      {kind:<10}  {_refers(kind, targets)}"
+@dataclasses.dataclass
+class _Entry:
+    """An item with what is said of it besides numbers of its own."""
+
+    item: Item
+    summary: str
+    place: str | None  # where its one payload lies, in words; none where it has several, or a part of it alone is there
+    references: list
 
 
-def _named(position, essential, contents):
-    if position == 0:
-        return "none"
-    return f"{position}{'*' if essential else ''} {contents.properties[position - 1][0].kind}"
+class _Items:
+    """The items in words."""
 
+    def __init__(self, data, found, contents):
+        self.data, self.contents = data, contents
+        self.boxes = found.boxes
+        self.starts = [box.start for box in found.boxes]
 
-def _refers(kind, targets):
-    meaning = {"dimg": "made from", "auxl": "auxiliary to", "cdsc": "describes", "thmb": "thumbnail of"}
-    return f"{meaning.get(kind, 'refers to')} {'item' if len(targets) == 1 else 'items'} {_list(targets)}"
+    def lines(self):
+        if not self.contents.items:
+            yield "no items can be read"
+            return
+        yield "items (* marks a property that a reader must understand)"
+        entries = [self._entry(item) for item in self.contents.items.values()]
+        for run in fold.runs(entries, self._step):
+            yield from self._run(run)
 
+    def _entry(self, item):
+        place = None
+        if len(item.extents) == 1:
+            offset, length = item.extents[0]
+            place = self._place(item, offset, length) if item.there(offset, length) in (0, length) else None
+        return _Entry(item, self._summary(item), place, self.contents.references_from.get(item.number, []))
 
-def _list(numbers):
-    """Numbers with runs drawn together, as '1 to 6, 9'."""
-    runs = []
-    for number in numbers:
-        if runs and number == runs[-1][1] + 1:
-            runs[-1][1] = number
+    def _step(self, a, b):
+        """How one item follows another, for fold.runs."""
+        one, two = a.item, b.item
+        alike = (
+            two.number == one.number + 1
+            and self._marks(one) == self._marks(two)
+            and one.associations == two.associations
+            and a.summary == b.summary
+            and a.place == b.place
+            and (a.place is not None or one.extents == two.extents == [])
+            and [reference.kind for reference in a.references] == [reference.kind for reference in b.references]
+        )
+        steps = [follows(x.targets, y.targets) for x, y in zip(a.references, b.references)]
+        return steps if alike and None not in steps else None
+
+    def _run(self, run):
+        first = run[0].item
+        named = fold.named("item", [entry.item.number for entry in run])
+        yield f"  {named}, {', '.join(self._marks(first))}{': ' if run[0].summary else ''}{run[0].summary}"
+        yield from self._payload(first) if len(run) == 1 else self._payloads(run)
+        if first.associations:
+            yield f"      properties  {', '.join(self._named(*association) for association in first.associations)}"
+        for alike in zip(*(entry.references for entry in run)):
+            yield f"      {alike[0].kind:<10}  {refer(alike[0].kind, [reference.targets for reference in alike])}"
+
+    def _marks(self, item):
+        marks = ["primary"] if item.number == self.contents.primary else []
+        marks += ["hidden"] if item.hidden else []
+        return [item.kind, *marks, *([item.content_type] if item.content_type else [])]
+
+    def _payload(self, item):
+        for offset, length in item.extents:
+            there = item.there(offset, length) if item.is_here else length
+            missing = f", of which {there:,} {'is' if there == 1 else 'are'} there" if 0 < there < length else ""
+            yield f"      payload     {plural(length, 'byte')} at {offset}{self._place(item, offset, length)}{missing}"
+            if length == 0:
+                yield "                  (a reader may take length 0 for the whole file)"
+
+    def _payloads(self, run):
+        """The payloads of alike items, each of one extent."""
+        extents = [extent for entry in run for extent in entry.item.extents]
+        if not extents:
+            return
+        place, lengths = run[0].place, [length for _, length in extents]
+        start, end = min(offset for offset, _ in extents), max(offset + length for offset, length in extents)
+        said = f"{fold.spread(lengths)} each, {plural(sum(lengths), 'byte')} in all"
+        if all(b[0] == a[0] + a[1] for a, b in zip(extents, extents[1:])):
+            yield f"      payloads    {said}, one behind the other from {start} on{place}"
         else:
-            runs.append([number, number])
-    return ", ".join(f"{a}" if a == b else f"{a}, {b}" if b == a + 1 else f"{a} to {b}" for a, b in runs)
+            shared = ", some of them the same bytes" if len(set(extents)) < len(extents) else ""
+            yield f"      payloads    {said}, from {start} to {end}{place}, not one behind the other{shared}"
+        if 0 in lengths:
+            yield "                  (a reader may take length 0 for the whole file)"
 
+    def _place(self, item, offset, length):
+        """Where an extent lies, in the words that follow its offset."""
+        if item.elsewhere:
+            return " in another file"
+        if item.method == IN_IDAT:
+            return " in idat" if item.there(offset, length) or not length else " in idat, not there"
+        if item.method != IN_FILE:
+            return f" of another item's payload (construction method {item.method})"
+        if length and not item.there(offset, length):
+            return f", beyond the end of the file at {item.limit}"
+        index = bisect.bisect_right(self.starts, offset) - 1
+        if length == 0 and index > 0 and offset == self.starts[index]:
+            index -= 1  # nothing lies rather at the end of a box than in the header of the next
+        box = self.boxes[index]
+        return f" in {box.kind}" if offset <= box.end else " in no box"
 
-def _summary(data, item):
-    """What the payload of a grid or of Exif says."""
-    payload = b"".join(data[offset : offset + length] for offset, length in item.extents)
-    if item.kind == "grid" and len(payload) >= 8:
-        return f": {_grid(payload)}"
-    if item.kind == "Exif" and len(payload) >= 4:
-        return f": TIFF header {plural(int.from_bytes(payload[:4], 'big'), 'byte')} behind its first four"
-    return ""
+    def _named(self, position, essential):
+        if position == 0:
+            return "none"
+        known = self.contents.properties
+        kind = known[position - 1][0].kind if position <= len(known) else "not there"
+        return f"{position}{'*' if essential else ''} {kind}"
+
+    def _summary(self, item):
+        """What the payload of a grid, of Exif or of an XMP packet says."""
+        if not item.extents or not item.is_whole:
+            return ""
+        if item.kind == "mime":
+            return metadata.xmp(item.payload(self.data)) if item.content_type == XMP_TYPE else ""
+        says = {"grid": _grid, "Exif": metadata.exif}.get(item.kind)
+        return says(item.payload(self.data)) if says else ""
 
 
 def _grid(descriptor):
-    """A grid's descriptor. The standard tells by the lowest flag whether its sizes have 32 bits; here its length does,
-    and where the two part that is said."""
-    side = 4 if len(descriptor) >= 12 else 2
-    width, height = (int.from_bytes(descriptor[at : at + side], "big") for at in (4, 4 + side))
-    parts = descriptor[1] & 1 != (side == 4)
-    remark = f", though flags {descriptor[1]} call for sizes of {16 if side == 4 else 32} bits" if parts else ""
-    rows, columns = plural(descriptor[2] + 1, "row"), plural(descriptor[3] + 1, "column")
-    return f"{rows} × {columns}, {width} × {height} pixels{remark}"
+    grid = grids.grid(descriptor)
+    return grid.words if grid else f"{plural(len(descriptor), 'byte')}, too short for a grid"
