@@ -22,12 +22,16 @@ not_ours=(
     src/ specs/ proofs/ must-fail/   # folders that crates have, and upstream
     crates/NAME target/              # any crate's folder, and that of what is built
     hello.c p.sheet                  # the reader's own files
+    card.heic card.png whole.png
     application/rdf                  # the content type of XMP, up to its +
     requires ensures pub mod mut     # words of Rattle
-    Option 'Option<bool>'            # types of Rust's
+    Option 'Option<bool>' TryFrom io::Write  # types of Rust's, and traits
     .antt abbrev unfoldable          # an ending, and words of antt
     .entry .exit                     # of a contract: what was lent, before and after
-    rt must-fail                     # a command of the kit
+    rt must-fail selftest bin        # the kit's command and its folder
+    git status flock setsid          # commands, with options of theirs
+    pkg-config --libs --modversion cargo doc --open
+    libkahopiru.a                    # what is built
     os read write close              # the kit's library, and libc's functions
 )
 ours() { [[ " ${not_ours[*]} " != *" $1 "* ]]; }
@@ -47,6 +51,7 @@ defined() {
         /^ *(pub )?enum .*\{$/ { variants = 1; next }
         /^ *\}/ { variants = 0 }
         variants && match($0, /^ *[A-Z][A-Za-z0-9]*/) { name = substr($0, 1, RLENGTH); gsub(/ /, "", name); print name, FILENAME }' {} +
+    tests/c/declared bindings/c/kahopiru.h | awk '{ print $2, "bindings/c/kahopiru.h" }'
     for crate in crates/*/; do echo "$(basename "$crate") $crate"; done
 }
 defined >"$room/defined"
@@ -119,6 +124,7 @@ done
 # anchors DOCUMENT: what leads to each of its headings: its words in small letters, joined by -
 anchors() { text_of "$1" | sed -nE 's/^#+ +//p' | LC_ALL=C tr 'A-Z ' 'a-z-' | LC_ALL=C sed 's/[^a-z0-9_-]//g'; }
 
+# Links that lead elsewhere, and those of rustdoc's, which tests/rust.sh tries, are not looked at.
 shopt -s nullglob
 for document in *.md docs/*.md examples/*.md bench/*.md bindings/*/*.md; do
     while read -r target; do
@@ -132,7 +138,7 @@ for document in *.md docs/*.md examples/*.md bench/*.md bindings/*/*.md; do
         elif [[ $target == *#* ]] && ! grep -qxF -- "${target#*#}" <(anchors "$file"); then
             fault "$document links to $target, and $file has no such heading"
         fi
-    done < <(text_of "$document" | grep -oE '\]\([^) ]+\)' | sed -E 's/^..(.*).$/\1/' | grep -vE '^[a-z]+:' || true)
+    done < <(text_of "$document" | grep -oE '\]\([^) ]+\)' | sed -E 's/^..(.*).$/\1/' | grep -vE '^([a-z]+:|fn@)' || true)
 done
 
 # dump DOCUMENT: the bytes of its one dump, in hex; each line has the offset of its first byte, the bytes, and two spaces before the words
