@@ -54,19 +54,21 @@ defined() {
     tests/c/declared bindings/c/kahopiru.h | awk '{ print $2, "bindings/c/kahopiru.h" }'
     for crate in crates/*/; do echo "$(basename "$crate") $crate"; done
 }
-defined >"$room/defined"
+declare -A files_of # of each name, the files that define it
+while read -r name file; do files_of[$name]+=" $file"; done < <(defined)
 
 faults=0 paths=0 names=0 placed=0 links=0
 fault() { echo "cited: $1" >&2; faults=$((faults + 1)); }
 
-# path_of WORD: where a path that the document cites lies, if it is there
-path_of() {
+# find_path WORD: sets `place` to where a path that the document cites lies, or to nothing
+find_path() {
     local each places=("$1")
     [ "$document" = README.md ] || places+=("crates/$1" "crates/$1.edit" "docs/$1")
     for each in "${places[@]}"; do
-        if [ -e "$each" ]; then echo "$each"; return; fi
+        if [ -e "$each" ]; then place=$each; return; fi
     done
-    [[ $1 == */* ]] || find crates -name "$1" -print -quit
+    place=
+    [[ $1 == */* ]] || place=$(find crates -name "$1" -print -quit)
 }
 
 # look NAME WHERE DOCUMENT: whether the name is defined somewhere below WHERE
@@ -75,8 +77,11 @@ look() {
         # a variable or an option that a script or a program asks for
         grep -rqwe "$1" --include='*.sh' --include='*.rs' tests bindings || fault "$3 cites $1, which nothing asks for"
     else
-        awk -v name="$1" -v where="$2" '$1 == name && index($2, where) == 1 { found = 1 } END { exit !found }' "$room/defined" ||
-            fault "$3 cites $1, which is not defined${2:+ in $2}"
+        local file
+        for file in ${files_of[$1]-}; do
+            if [[ $file == "$2"* ]]; then return; fi
+        done
+        fault "$3 cites $1, which is not defined${2:+ in $2}"
     fi
 }
 
@@ -89,7 +94,8 @@ for document in README.md docs/CLAIMS.md docs/DECISIONS.md docs/FORMAT.md docs/M
     while read -r word; do
         ours "$word" || continue
         paths=$((paths + 1))
-        [ -n "$(path_of "$word")" ] || fault "$document cites the path $word, which is not there"
+        find_path "$word"
+        [ -n "$place" ] || fault "$document cites the path $word, which is not there"
     done < <(LC_ALL=C tr -c 'A-Za-z0-9_./-' '\n' <"$room/text" | sed -E 's/\.+$//' |
         grep -E "/|$file_name" | sort -u)
 
@@ -101,7 +107,8 @@ for document in README.md docs/CLAIMS.md docs/DECISIONS.md docs/FORMAT.md docs/M
             continue
         fi
         # Of a formula, words of one letter are its variables.
-        for name in $(sed 's/[()&]/ /g; s/≡/ /g' <<<"$span"); do
+        span=${span//≡/ }
+        for name in ${span//[()&]/ }; do
             if [ ${#name} = 1 ] || ! ours "$name"; then continue; fi
             names=$((names + 1))
             case $name in
@@ -112,12 +119,13 @@ for document in README.md docs/CLAIMS.md docs/DECISIONS.md docs/FORMAT.md docs/M
     done < <(grep -oE '`[^`]+`' "$room/text" | tr -d '`' | sort -u)
 
     while IFS='(' read -r list word; do
-        place=$(path_of "$word")
+        find_path "$word"
         [ -n "$place" ] || continue
-        while read -r name; do
+        list=${list//, / }
+        for name in ${list// and / }; do
             placed=$((placed + 1))
-            look "$name" "$place" "$document"
-        done < <(grep -oE '`[^`]+`' <<<"$list" | tr -d '`')
+            look "${name//\`/}" "$place" "$document"
+        done
     done < <(grep -oE '(`[^` ]+`(, | and )?)+ \([a-z_]+/[A-Za-z0-9_./-]+' "$room/text")
 done
 
