@@ -126,9 +126,10 @@ root=$room/root
 mkdir "$room/kit"
 cat >"$room/kit/rt" <<'END'
 #!/bin/sh
-# A kit that says what rt says, takes no time unless SLOW names seconds, and fails as FAULTY says.
+# A kit that says what rt says and takes no time, unless SLOW names seconds. Where WATCHED names a file, it goes on to the next crate when
+# the last one is shown there, or after some seconds. It fails as FAULTY says.
 echo "$*" >>"$ROOM/runs"
-program=target/bin/program_panel archive=target/staticlib/libkahopiru.a
+count=0
 for crate in one two three; do
     echo "fn $crate::f: proved"
     if [ "$FAULTY" = "$crate" ]; then
@@ -140,12 +141,15 @@ for crate in one two three; do
         exit 1
     fi
     echo "rt: $crate proved (0 s)"
+    count=$((count + 1))
+    tries=0
+    while [ -n "$WATCHED" ] && [ $tries -lt 60 ] && ! grep -aqs "crate $count of" "$WATCHED"; do sleep 0.05; tries=$((tries + 1)); done
     sleep "${SLOW:-0}"
 done
 mkdir -p target/bin target/staticlib
 case $1 in
     check) echo "rt: program_panel proved (0 s)"; cp "$PROGRAM" target/bin/program_panel ;;
-    staticlib) : >$archive ;;
+    staticlib) : >target/staticlib/libkahopiru.a ;;
 esac
 END
 chmod 755 "$room/kit/rt"
@@ -170,9 +174,21 @@ used() { PATH=$room/kit:$PATH "$root/$1" <"$p"; }
 runs() { [ "$(wc -l <"$room/runs" 2>/dev/null)" = "$1" ]; }
 built() { [ -f "$root/target/bin/program_panel" ] || [ -f "$root/target/staticlib/libkahopiru.a" ]; }
 
+# A time that no other process sleeps, and whether nobody sleeps it any more.
+long=600.$$
+ended_all() { ! pgrep -f "sleep $long" >/dev/null; }
+# wait_until TEST..: waits until a test holds, at most ten seconds
+wait_until() {
+    local _
+    for _ in $(seq 100); do if "$@" >/dev/null; then return; fi; sleep 0.1; done
+}
+# Commands without a kit: those that the scripts use before they ask for it.
+mkdir "$room/bare"
+for command in bash env dirname readlink; do ln -s "$(command -v "$command")" "$room/bare/$command"; done
+
 for script in panel bindings/archive; do
     new_root
-    SLOW=0.3 run used $script
+    WATCHED=$room/err run used $script
     holds "$script shows crate k of n and the time while it proves" \
         all ended 0 , built , grep -qE 'crate 1 of 4.*[0-9] s' "$room/err" , grep -qE 'crate 3 of 4.*[0-9] s' "$room/err"
     holds "$script writes no progress to standard output" all [ -z "$(grep -a 'crate 1' "$room/out")" ] , [ -s "$room/err" ]
@@ -193,7 +209,7 @@ for script in panel bindings/archive; do
 
     if command -v script >/dev/null; then
         new_root
-        SLOW=0.3 run script -qec "PATH=$room/kit:\$PATH '$root/$script' <'$p' 2>&1 >/dev/null" /dev/null </dev/null
+        WATCHED=$room/out run script -qec "PATH=$room/kit:\$PATH '$root/$script' <'$p' 2>&1 >/dev/null" /dev/null </dev/null
         holds "$script rewrites one line of progress at a terminal" \
             all ended 0 , grep -qE $'\r.*crate 1 of 4.*\r.*crate 3 of 4' <(tr '\n' ' ' <"$room/out")
     fi
@@ -213,17 +229,17 @@ for script in panel bindings/archive; do
     holds "two first uses of $script at once prove once" all ended 0 , [ "$both" = "$(wc -l <"$room/runs")" ]
 
     new_root
-    SLOW=61 used $script >/dev/null 2>&1 &
+    SLOW=$long used $script >/dev/null 2>&1 &
     user=$!
-    for _ in $(seq 50); do if pgrep -f 'sleep 61' >/dev/null; then break; fi; sleep 0.1; done
+    wait_until pgrep -f "sleep $long"
     pkill -TERM -P "$user" -f "$root/$script" || kill -TERM "$user"
-    for _ in $(seq 50); do if ! pgrep -f 'sleep 61' >/dev/null; then break; fi; sleep 0.1; done
-    holds "a TERM of $script ends what it started" [ -z "$(pgrep -f 'sleep 61')" ]
-    pkill -f 'sleep 61'
+    wait_until ended_all
+    holds "a TERM of $script ends what it started" ended_all
+    pkill -f "sleep $long"
     wait "$user" 2>/dev/null
 
     new_root
-    run env PATH=/usr/bin:/bin "$root/$script" <"$p"
+    run env PATH="$room/bare" "$root/$script" <"$p"
     holds "$script without the kit ends in status 2 and says so in a line" failed_with 'the Rattle kit is missing'
     ln -s "$root/$script" "$root/linked"
     run used linked
