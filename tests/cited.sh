@@ -22,7 +22,7 @@ not_ours=(
     src/ specs/ proofs/ must-fail/   # folders that crates have, and upstream
     crates/NAME target/              # any crate's folder, and that of what is built
     hello.c p.sheet                  # the reader's own files
-    card.heic card.png whole.png
+    card.heic card.png film.png whole.png
     application/rdf                  # the content type of XMP, up to its +
     requires ensures pub mod mut     # words of Rattle
     Option 'Option<bool>' TryFrom io::Write  # types of Rust's, and traits
