@@ -30,4 +30,5 @@ for ((i = 0; i < ${#sheets[@]}; i += 2)); do
     [ "$words" = "panel: refused $number: $(sed -n "s/^$number\t//p" "$room/readme")" ] || fail "the program says of $number: $words"
     said=$((said + 1))
 done
-echo "words: $(wc -l <"$room/readme") refusals are said in the same words by README.md, the header and the Rust crate, $said of them by ./panel"
+refusals=$(wc -l <"$room/readme")
+echo "words: $refusals refusals are said in the same words by README.md, the header and the Rust crate, $said of them by ./panel"

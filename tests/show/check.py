@@ -1,7 +1,9 @@
 """tools/show is held to the offsets that the specification gives for panel P's file, to small files made here, and to clear
 words for everything that is not a whole HEIF file."""
 
+import os
 import pathlib
+import subprocess
 import tempfile
 
 import damage
@@ -56,6 +58,21 @@ def check_usage(path):
         fail(f"of a file that is not there it says {answer}")
 
 
+def check_streams(path):
+    """The verdict stands where nobody reads it to its end, and a stream that is closed is said to be."""
+    for how, wanted in (("--check", 1), ("--svg", 0)):
+        read_end, write_end = os.pipe()
+        os.close(read_end)
+        ended = subprocess.run([ROOT / "tools/show", how, path], stdout=write_end, stderr=subprocess.PIPE)
+        os.close(write_end)
+        if (ended.returncode, ended.stderr) != (wanted, b""):
+            fail(f"{how} into a pipe that nobody reads ends in {ended.returncode} and says {ended.stderr.decode()}")
+    for closed, name in (("<&-", "standard input"), (">&-", "standard output")):
+        ended = subprocess.run(f"tools/show - {closed}", shell=True, cwd=ROOT, stdin=subprocess.DEVNULL, capture_output=True)
+        if (ended.returncode, ended.stderr.decode()) != (2, f"show: {name} is closed\n"):
+            fail(f"with {name} closed it ends in {ended.returncode} and says {ended.stderr.decode()}")
+
+
 def main():
     files = vectors()
     for data in files.values():
@@ -67,6 +84,7 @@ def main():
         check_offsets(path)
         check_picture(path)
         check_usage(path)
+        check_streams(path)
     said = [module.check_all() for module in (folding, metadata, faults, damage)]
     print(f"show: P's boxes lie where the specification has them; {len(files)} files are read; {'; '.join(said)}")
 

@@ -62,6 +62,7 @@ SAMPLES = [
     (payload(1, b"\0\0\0\1" + unit(SLICE, 8)[4:]), [f"item 1, hvc1: the sample begins with a start code (00 00 00 01), {ANNEX_B}"]),
     (payload(1, b"\0\0\1" + unit(SLICE, 8)[4:]), [f"item 1, hvc1: the sample begins with a start code (00 00 01), {ANNEX_B}"]),
     (payload(1, unit(SLICE, 300)), []),  # its length is 00 00 01 2c, and no start code
+    (payload(1, unit(SLICE, 300)[:-1]), [f"item 1, hvc1: {WALK}: the unit at 0 says 300 bytes, and 299 are left"]),
     (payload(1, unit(SLICE) + unit(SLICE)), []),
     (payload(1, unit(SLICE) + bytes(3)), [f"item 1, hvc1: {WALK}: 3 bytes left at 8, too few for a length"]),
     (payload(1, unit(SLICE) + unit(SLICE)[:-1]), [f"item 1, hvc1: {WALK}: the unit at 8 says 4 bytes, and 3 are left"]),

@@ -169,8 +169,8 @@ class _Check:
         """The NAL units of a sample, by the lengths that its record says; by four bytes where it does not."""
         size = record.length_size if record else 4
         kinds, fault = hevc.walk(sample, size)
-        if fault and sample.startswith(hevc.START_CODES):
-            code = sample[: 4 if sample[2] == 0 else 3].hex(" ")
+        code = hevc.start_code(sample).hex(" ")
+        if fault and code:
             wants = f"HEIF wants each NAL unit behind its length in {plural(size, 'byte')}"
             self.of_item(item, f"the sample begins with a start code ({code}), which is Annex B: {wants}")
         elif fault:

@@ -1,6 +1,7 @@
 """The command tools/show."""
 
 import argparse
+import os
 import pathlib
 import sys
 
@@ -33,6 +34,14 @@ def _missing(trouble):
     return "; ".join(trouble[:3]) + more
 
 
+def _put(words):
+    """Prints all of it. Where the reader of our output, as `head`, has had enough, the rest is dropped, and nothing else changes."""
+    try:
+        print(words, flush=True)
+    except BrokenPipeError:
+        os.dup2(os.open(os.devnull, os.O_WRONLY), sys.stdout.fileno())  # for what is still to be flushed
+
+
 def main(arguments):
     """Does what the arguments ask for; the exit status."""
     asked = _asked(arguments)
@@ -48,10 +57,9 @@ def main(arguments):
     contents = items.contents(data, found)
     if asked.check:
         findings = check.findings(data, contents)
-        print("\n".join(findings or [check.nothing(contents)]))
+        _put("\n".join(findings or [check.nothing(contents)]))
         return 1 if findings else 0
-    print(svg.show(data, found, contents) if asked.svg else "\n".join(text.show(data, found, contents)))
+    _put(svg.show(data, found, contents) if asked.svg else "\n".join(text.show(data, found, contents)))
     if contents.trouble:
-        sys.stdout.flush()
         print(f"show: {name}: {_missing(contents.trouble)}", file=sys.stderr)
     return 1 if contents.trouble else 0

@@ -8,7 +8,6 @@ SHORTEST = 23  # bytes of a record without parameter sets
 CHROMA = {0: "4:0:0", 1: "4:2:0", 2: "4:2:2", 3: "4:4:4"}
 PARAMETER_SETS = {32: "VPS", 33: "SPS", 34: "PPS"}
 FIRST_THAT_IS_NO_SLICE = 32  # NAL unit types below it are of coded slices
-START_CODES = (b"\0\0\0\1", b"\0\0\1")
 
 
 @dataclasses.dataclass
@@ -68,3 +67,13 @@ def walk(sample, length_size):
         kinds.append(sample[at + length_size] >> 1 & 63)
         at += length_size + length
     return kinds, None
+
+
+def start_code(sample):
+    """The start code that a sample in the form of Annex B begins with, or nothing. A length in 4 bytes may begin with the same three
+    bytes: then a start code is behind them only if what follows can be the header of a unit, of the base layer and some sub-layer."""
+    if sample.startswith(b"\0\0\0\1"):
+        return sample[:4]
+    header = sample[3:5]
+    follows = len(header) == 2 and header[0] & 0x81 == 0 and 0 < header[1] < 8
+    return sample[:3] if sample.startswith(b"\0\0\1") and follows else b""
