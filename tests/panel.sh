@@ -209,7 +209,8 @@ mkdir "$room/kit"
 cat >"$room/kit/rt" <<'KIT'
 #!/bin/sh
 # A kit that says what rt says and takes no time. Where WATCHED names a file, it goes on to the next crate when the last one is shown there,
-# or after some seconds. SLOW has it sleep, with the sleep's number in ROOM/sleep. It fails as FAULTY says, without a word if that is `all`.
+# or after some seconds. SLOW has it sleep, with the sleep's number in ROOM/sleep. EDITED names a source that somebody edits meanwhile. It
+# fails as FAULTY says, without a word if that is `all`. As rt does, it links a program only if it has proved something of it anew.
 echo "$*" >>"$ROOM/runs"
 [ "$FAULTY" != all ] || exit 1
 count=0
@@ -235,15 +236,22 @@ for crate in one two three; do
         wait
     fi
 done
-mkdir -p target/bin target/staticlib
+[ -z "$EDITED" ] || touch "$EDITED"
+mkdir -p target/bin target/staticlib target/stamp
 case $1 in
-    check) echo "rt: program_panel proved (0 s)"; cp "$PROGRAM" target/bin/program_panel ;;
+    check)
+        echo "rt: program_panel proved (0 s)"
+        if [ ! -e target/stamp/program_panel ] || [ -n "$(find crates crates.txt -newer target/stamp/program_panel)" ]; then
+            touch target/stamp/program_panel
+            cp "$PROGRAM" target/bin/program_panel
+        fi
+        ;;
     staticlib) echo archive >target/staticlib/libkahopiru.a ;;
 esac
 KIT
 chmod 755 "$room/kit" "$room/kit/rt"
 kit=$room/kit
-export PROGRAM=$home/target/bin/program_panel WATCHED='' SLOW='' FAULTY=''
+export PROGRAM=$home/target/bin/program_panel WATCHED='' SLOW='' EDITED='' FAULTY=''
 
 # new_root: a repository in which nothing is built
 new_root() {
@@ -304,6 +312,22 @@ first_uses() {
     touch "$root/crates/two/specs/More.antt"
     run used $script
     holds "$script proves again when a source that was added is newer" all ended 0 , more_runs "$before"
+    touch "$root/crates/three/specs/More.antt"
+    sleep 0.05
+    for each in "$root/target/bin/program_panel" "$root/target/staticlib/libkahopiru.a"; do [ ! -e "$each" ] || touch "$each"; done
+    before=$(count_runs)
+    run used $script
+    holds "$script takes what was built without it" all ended 0 , silent , runs "$before"
+    sleep 0.05
+    touch "$root/crates/three/specs/More.antt"
+    run used $script
+    holds "$script knows the sources of what was built without it" all ended 0 , more_runs "$before"
+    sleep 0.05
+    touch "$root/crates/one/src/lib.rt"
+    EDITED=crates/two/specs/Lib.antt run used $script
+    before=$(count_runs)
+    run used $script
+    holds "$script proves again when a source was edited while it proved" all ended 0 , more_runs "$before"
     before=$(count_runs)
     sleep 0.05
     rm "$root/crates/two/src/lib.rt"
