@@ -50,7 +50,13 @@ wait_until() {
     for _ in $(seq 200); do if "$@"; then return; fi; sleep 0.05; done
     return 1
 }
-is_gone() { ! kill -0 "$1" 2>/dev/null; }
+# is_gone PROCESS: whether it has ended, be it that nobody has asked for its status yet
+is_gone() {
+    case $(ps -o stat= -p "$1") in
+        '' | Z*) ;;
+        *) return 1 ;;
+    esac
+}
 
 # Root may read and write everything, so what it may not is tried as nobody.
 as_user=()
