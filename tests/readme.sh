@@ -51,15 +51,18 @@ wanting() {
 }
 
 # The commands that want what is not there are taken out of the blocks, each with what it prints.
-stays=yes
+stays=yes words=() sentences=()
 while IFS= read -r line; do
     if [[ $line == '$ '* ]]; then
-        read -r word program < <(wanting "${line#??}") && stays=no || stays=yes
-        [ "$stays" = yes ] || left_out "$word" "${line#??}: $program is not installed" >&2
+        stays=yes
+        if read -r word program < <(wanting "${line#??}"); then
+            stays=no words+=("$word") sentences+=("${line#??}: $program is not installed")
+        fi
     fi
     [ "$stays" = no ] || printf '%s\n' "$line"
 done <"$room/console" >"$room/stays"
 mv "$room/stays" "$room/console"
+for each in "${!words[@]}"; do left_out "${words[each]}" "${sentences[each]}"; done
 
 status=0
 ./panel </dev/null >"$room/log" 2>&1 || status=$?
