@@ -74,7 +74,7 @@ fi
 
 # The sheets that the cases are about, and what P's file is.
 p=$home/examples/p.sheet
-head -c 44 "$p" >"$room/short.sheet"
+head -c -1 "$p" >"$room/short.sheet"
 awk '$1 == "p" { print $3 }' tests/vectors/upstream.txt | tr -d '\n' | sed 's/../\\x&/g' >"$room/p.escaped"
 printf "$(cat "$room/p.escaped")" >"$room/p.heic"
 

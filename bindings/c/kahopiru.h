@@ -117,7 +117,7 @@ enum {
     KAHOPIRU_SHEET_LENGTH = 15
 };
 
-/* Depths, for bit_depth. */
+/* Depths, for bit_depth and alpha_bit_depth. */
 enum { KAHOPIRU_EIGHT = 0, KAHOPIRU_TEN = 1, KAHOPIRU_TWELVE = 2 };
 
 /* Orientations, in Exif's order: Exif's number less 1.
@@ -181,7 +181,8 @@ typedef struct {
     uint32_t cols, rows;     /* tiles across and down: 1 to 256 each */
     uint32_t tile_w, tile_h; /* size of a tile, in pixels; any numbers, 0 too */
     uint32_t full_w, full_h; /* size of the whole picture; any numbers, 0 too */
-    uint8_t bit_depth;       /* of colour and alpha: 0, 1, 2 for 8, 10, 12 bits */
+    uint8_t bit_depth;       /* of the colour picture: 0, 1, 2 for 8, 10, 12 bits */
+    uint8_t alpha_bit_depth; /* of the alpha picture, by the same codes; 0, too, is said by it: 8 bits */
     uint8_t orientation;     /* 0 to 7 */
     uint8_t has_light;       /* 0 or 1: the light levels below are part of the panel */
     uint8_t has_exif;        /* 0 or 1; the Exif bytes are lent beside the panel */

@@ -33,7 +33,8 @@ class Panel:
     rows: int
     tile: tuple  # width and height
     full: tuple
-    depth: int
+    depth: int  # of a sample of the colour picture, in bits
+    alpha_depth: int
     color_record: bytes
     alpha_record: bytes
     color_samples: list
@@ -73,7 +74,7 @@ def _always(panel):
     samples = panel.color_samples + panel.alpha_samples
     numbers = number(panel.cols, 2) + number(panel.rows, 2)
     numbers += b"".join(number(side, 4) for side in panel.tile + panel.full)
-    numbers += number(DEPTHS[panel.depth], 1)
+    numbers += number(DEPTHS[panel.depth], 1) + number(DEPTHS[panel.alpha_depth], 1)
     records = string(panel.color_record) + string(panel.alpha_record)
     return numbers + records + b"".join(number(len(s), 4) for s in samples) + b"".join(samples)
 

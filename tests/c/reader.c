@@ -86,6 +86,7 @@ given read_sheet(bytes sheet, uint32_t *lengths, bool junk) {
     const uint32_t tile_w = number(&sheet, 4), tile_h = number(&sheet, 4);
     const uint32_t full_w = number(&sheet, 4), full_h = number(&sheet, 4);
     const uint8_t depth = named(&sheet, depths, sizeof depths);
+    const uint8_t alpha_depth = named(&sheet, depths, sizeof depths);
     g.color_hvcc = string(&sheet);
     g.alpha_hvcc = string(&sheet);
     g.color_lengths = list(&sheet, cols * rows, lengths);
@@ -136,6 +137,7 @@ given read_sheet(bytes sheet, uint32_t *lengths, bool junk) {
         .full_w = full_w,
         .full_h = full_h,
         .bit_depth = depth,
+        .alpha_bit_depth = alpha_depth,
         .orientation = orientation,
         .has_light = has_light,
         .has_exif = has_exif,

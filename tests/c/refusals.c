@@ -82,7 +82,7 @@ static void refused_sheet(bytes sheet, size_t out_len, uint32_t constant, const 
 }
 
 /* Panel P's sheet, and room for changed ones. */
-static const char p_digits[] = "00000001000100000040000000400000004000000040000000000201010000000201040000000100000001AABB";
+static const char p_digits[] = "0000000100010000004000000040000000400000004000000000000201010000000201040000000100000001AABB";
 enum { P_BYTES = sizeof p_digits / 2, MOST_SHEET = 12288 };
 static uint8_t p_sheet[P_BYTES], changed[MOST_SHEET + 1];
 
@@ -183,6 +183,7 @@ static void codes(const given *p) {
         NAMES_NOTHING(cicp.full_range, 2); \
     } while (0)
     NAMES_NOTHING(bit_depth, 3);
+    NAMES_NOTHING(alpha_bit_depth, 3);
     NAMES_NOTHING(orientation, 8);
     NAMES_NOTHING(has_light, 2);
     NAMES_NOTHING(has_exif, 2);
@@ -225,6 +226,7 @@ static void sheets(void) {
     refused_sheet(nothing, ROOM, KAHOPIRU_SHEET_ENDS, "an empty sheet");
     refused_sheet((bytes){p_sheet, P_BYTES - 1}, ROOM, KAHOPIRU_SHEET_ENDS, "P's sheet without its last byte");
     refused_sheet(with_byte(22, 3), ROOM, KAHOPIRU_CODE, "a depth of 3");
+    refused_sheet(with_byte(23, 3), ROOM, KAHOPIRU_CODE, "an alpha depth of 3");
     with_byte(0, 0);
     refused_sheet((bytes){changed, P_BYTES + 1}, ROOM, KAHOPIRU_SHEET_BYTES_LEFT, "P's sheet and one byte more");
     with_byte(3, 0);
@@ -235,7 +237,7 @@ static void sheets(void) {
 /* A sheet of 12,288 bytes whose tiles are many and empty: its file is too long for the program, and for 140,000 bytes
    none is. */
 static void long_sheet(void) {
-    enum { COLS = 51, ROWS = 30, RECORD_LENGTH = 23, REST = MOST_SHEET - 31 - 8 * COLS * ROWS };
+    enum { COLS = 51, ROWS = 30, RECORD_LENGTH = 24, REST = MOST_SHEET - 32 - 8 * COLS * ROWS };
     static uint8_t file[140000];
     memset(changed, 0, sizeof changed);
     changed[3] = COLS;
@@ -245,7 +247,7 @@ static void long_sheet(void) {
     refused_sheet(sheet, ROOM, KAHOPIRU_OUTPUT_LENGTH, "a sheet of 1,530 tiles");
     const kahopiru_answer answer = call_sheet(sheet, file, 32768);
     expect(answer.refusal == KAHOPIRU_OUTPUT_LENGTH, "a sheet of 1,530 tiles", "32,768 bytes are too short for it");
-    expect(same_answer(call_sheet(sheet, file, sizeof file), (kahopiru_answer){.refusal = 0, .length = 136648}),
+    expect(same_answer(call_sheet(sheet, file, sizeof file), (kahopiru_answer){.refusal = 0, .length = 136647}),
            "a sheet of 1,530 tiles", "140,000 bytes are enough for it");
 }
 

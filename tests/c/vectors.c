@@ -68,12 +68,13 @@ static void try_all(const char *name, bytes sheet, bytes file) {
     free(lengths);
 }
 
-/* The list's tiles and gain images are square, and its alpha samples as long as the colour samples. Here no two sizes
-   are alike, and no two lengths of samples; the file is the sheet call's. */
+/* The list's tiles and gain images are square, its alpha samples as long as the colour samples, and its depths of colour
+   and alpha are one. Here no two sizes are alike, no two lengths of samples and no two depths but the alpha picture's
+   and the gain image's; the file is the sheet call's. */
 static void try_uneven(void) {
     static const char digits[] =
-        "01FF" "0002" "0001" "00000011" "00000012" "00000013" "00000014" "01" /* map, grid, sizes, depth */
-        "00000002" "0101" "00000003" "010402"                                 /* records */
+        "01FF" "0002" "0001" "00000011" "00000012" "00000013" "00000014"      /* map, grid, sizes */
+        "0102" "00000002" "0101" "00000003" "010402"                          /* depths, records */
         "00000001" "00000002" "00000004" "00000000" "A1A2A3" "B1B2B3B4"       /* lengths, samples */
         "0001" "000D" "0006" "01" "00000001" "C1" "06" "03E8" "0190"          /* cicp, ICC, orientation, light level */
         "00000004" "4D4D002A"                                                 /* Exif */

@@ -32,6 +32,7 @@ class Case:
 
     name: str
     depth: int = 8
+    alpha_depth: int | None = None  # the colour's, unless it is stated
     csp: str = "i444"
     cicp: tuple | None = RGB
     icc: bytes | None = None
@@ -44,12 +45,18 @@ class Case:
     empty_sample: bool = False
     difference: str | None = None
 
+    def __post_init__(self):
+        self.alpha_depth = self.alpha_depth or self.depth
+
 
 def cases():
     """Depths and samplings, colour, metadata, gain maps, sizes, and every orientation."""
     plain = [Case(f"rgb-{depth}", depth=depth) for depth in (8, 10, 12)]
     plain += [Case(f"yuv420-{depth}", depth=depth, csp="i420", cicp=YCC) for depth in (8, 10, 12)]
     plain += [
+        Case("rgb-12-alpha-8", depth=12, alpha_depth=8),
+        Case("yuv420-12-alpha-8", depth=12, alpha_depth=8, csp="i420", cicp=YCC),
+        Case("rgb-8-alpha-12", alpha_depth=12),
         Case("yuv444-8", cicp=YCC),
         Case("yuv420-8-video-range", csp="i420", cicp=VIDEO),
         Case("yuv420-10-pq-light", depth=10, csp="i420", cicp=PQ, light=(1000, 400)),
@@ -94,7 +101,7 @@ def colour_planes(case):
 
 
 def alpha_plane(case):
-    top = (1 << case.depth) - 1
+    top = (1 << case.alpha_depth) - 1
     return _fill(COLS * TILE, ROWS * TILE, lambda x, y: (x * 3 + y * 5) * (1 + top) // 1024 & top)
 
 
@@ -124,9 +131,10 @@ def panel(case, cache):
     """The case as a panel, with its pictures coded."""
     # Where the file says nothing of the range, as beside an ICC profile alone, a reader takes what the stream says.
     exact = ("--lossless", "--range", "limited" if case.cicp == VIDEO else "full")
-    colour_tiles, alpha_tiles = _tiles(colour_planes(case), case.depth), _tiles([alpha_plane(case)], case.depth)
+    colour_tiles = _tiles(colour_planes(case), case.depth)
+    alpha_tiles = _tiles([alpha_plane(case)], case.alpha_depth)
     color_record, color = hevc.code_tiles(colour_tiles, TILE, TILE, case.csp, case.depth, exact, cache)
-    alpha_record, alpha = hevc.code_tiles(alpha_tiles, TILE, TILE, "i400", case.depth, exact, cache)
+    alpha_record, alpha = hevc.code_tiles(alpha_tiles, TILE, TILE, "i400", case.alpha_depth, exact, cache)
     if case.empty_sample:
         color[-1] = b""
     return sheet.Panel(
@@ -135,6 +143,7 @@ def panel(case, cache):
         tile=(TILE, TILE),
         full=case.full,
         depth=case.depth,
+        alpha_depth=case.alpha_depth,
         color_record=color_record,
         alpha_record=alpha_record,
         color_samples=color,
@@ -204,7 +213,7 @@ def picture(case):
     """The colour and the alpha before they are turned."""
     cicp = case.cicp or YCC  # grey is grey under any matrix
     colour = pixels.rgb(colour_planes(case), case.depth, cicp).cropped(*case.full)
-    alpha = pixels.Picture(COLS * TILE, ROWS * TILE, case.depth, [alpha_plane(case)]).cropped(*case.full)
+    alpha = pixels.Picture(COLS * TILE, ROWS * TILE, case.alpha_depth, [alpha_plane(case)]).cropped(*case.full)
     return colour, alpha
 
 

@@ -22,6 +22,7 @@ def _panel(width, cache):
         tile=TILE,
         full=(width, TILE[1]),
         depth=8,
+        alpha_depth=8,
         color_record=record,
         alpha_record=alpha_record,
         color_samples=colour * COLS,

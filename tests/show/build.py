@@ -197,7 +197,7 @@ def from_sheet(sheet):
         return sheet[at - length : at]
 
     columns, rows, tile_w, tile_h, full_w, full_h = number(2), number(2), number(4), number(4), number(4), number(4)
-    number(1)  # the depth: 8 bits
+    number(2)  # the depths: 8 bits, and 8 bits of alpha
     records = [string(number(4)), string(number(4))]
     lengths = [number(4) for _ in range(2 * rows * columns)]
     made = good(rows, columns)

@@ -45,6 +45,7 @@ fn numbers(p: &Panel<'_>) -> sys::Panel {
         full_w: p.dims.full_w,
         full_h: p.dims.full_h,
         bit_depth: p.bit_depth.code(),
+        alpha_bit_depth: p.alpha_bit_depth.unwrap_or(p.bit_depth).code(),
         orientation: p.metadata.orientation.code(),
         has_light: light.is_some().into(),
         has_exif: p.metadata.exif.is_some().into(),

@@ -53,8 +53,29 @@ pub struct EncodedGainMap<'a> {
 pub struct Panel<'a> {
     /// The tile grid, the same for colour and alpha.
     pub dims: GridDims,
-    /// Bits of a sample, the same for colour and alpha.
+    /// Bits of a sample of the colour picture.
     pub bit_depth: BitDepth,
+    /// Bits of a sample of the alpha picture. `None`, the default, is the colour picture's depth: a panel has the same
+    /// file with `None` and with `Some(bit_depth)`.
+    ///
+    /// ```
+    /// use kahopiru::{to_vec, BitDepth, GridDims, Panel, Samples};
+    ///
+    /// let tile = Samples { lengths: &[1], bytes: &[0] };
+    /// let deep = Panel {
+    ///     dims: GridDims { cols: 1, rows: 1, tile_w: 64, tile_h: 64, full_w: 64, full_h: 64 },
+    ///     bit_depth: BitDepth::Twelve,
+    ///     color_samples: tile,
+    ///     alpha_samples: tile,
+    ///     ..Panel::default()
+    /// };
+    /// let masked = Panel { alpha_bit_depth: Some(BitDepth::Eight), ..deep };
+    /// // The depth of the alpha picture's pixi is all that differs.
+    /// let differing = to_vec(&deep)?.into_iter().zip(to_vec(&masked)?).filter(|(a, b)| a != b);
+    /// assert_eq!(differing.collect::<Vec<_>>(), [(12, 8)]);
+    /// # Ok::<(), kahopiru::Refusal>(())
+    /// ```
+    pub alpha_bit_depth: Option<BitDepth>,
     /// The decoder configuration record that all colour tiles share, and with it their parameter sets.
     ///
     /// A record is the body of an `hvcC` box (`HEVCDecoderConfigurationRecord`), without the box's own 8 bytes of size

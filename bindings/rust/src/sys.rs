@@ -41,6 +41,7 @@ pub struct Panel {
     pub full_w: u32,
     pub full_h: u32,
     pub bit_depth: u8,
+    pub alpha_bit_depth: u8,
     pub orientation: u8,
     pub has_light: u8,
     pub has_exif: u8,

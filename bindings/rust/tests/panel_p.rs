@@ -142,10 +142,14 @@ fn an_alternate_colour_that_is_empty_or_has_no_tone_map_is_none() {
 }
 
 #[test]
-fn depths_reach_every_pixi() {
-    for (depth, bits) in [(BitDepth::Eight, 8), (BitDepth::Ten, 10), (BitDepth::Twelve, 12)] {
-        let file = to_vec(&Panel { bit_depth: depth, ..p() }).unwrap();
-        assert!(holds(&file, &[b'p', b'i', b'x', b'i', 0, 0, 0, 0, 3, bits, bits, bits]));
-        assert!(holds(&file, &[b'p', b'i', b'x', b'i', 0, 0, 0, 0, 1, bits]));
+fn each_depth_reaches_its_own_pixi() {
+    for bit_depth in BitDepth::ALL {
+        // Unless it is stated, alpha has the colour's depth.
+        for (alpha_bit_depth, alpha) in [None].into_iter().chain(BitDepth::ALL.map(Some)).map(|d| (d, d.unwrap_or(bit_depth))) {
+            let file = to_vec(&Panel { bit_depth, alpha_bit_depth, ..p() }).unwrap();
+            let bits = bit_depth.bits();
+            assert!(holds(&file, &[b'p', b'i', b'x', b'i', 0, 0, 0, 0, 3, bits, bits, bits]));
+            assert!(holds(&file, &[b'p', b'i', b'x', b'i', 0, 0, 0, 0, 1, alpha.bits()]));
+        }
     }
 }

@@ -132,8 +132,13 @@ fn refusals_have_numbers_and_say_what_is_wrong() {
 
 #[test]
 fn codes_that_no_enum_has_are_refused_by_the_archive_itself() {
-    let panel = sys::Panel { orientation: 8, ..sys::Panel::default() };
-    assert_eq!(sys::file_length(panel, &sys::Lent::default()), sys::Answer { refusal: 13, length: 0 });
+    for panel in [
+        sys::Panel { orientation: 8, ..sys::Panel::default() },
+        sys::Panel { bit_depth: 3, ..sys::Panel::default() },
+        sys::Panel { alpha_bit_depth: 3, ..sys::Panel::default() },
+    ] {
+        assert_eq!(sys::file_length(panel, &sys::Lent::default()), sys::Answer { refusal: 13, length: 0 });
+    }
     let panel = sys::Panel { orientation: 7, ..sys::Panel::default() };
     assert_eq!(sys::file_length(panel, &sys::Lent::default()), sys::Answer { refusal: 1, length: 0 });
 }

@@ -19,7 +19,7 @@ fn sheet(cols: u16, rows: u16, map: u16, color_record: usize, gain_record: &[u8]
     let head = [map.to_be_bytes(), cols.to_be_bytes(), rows.to_be_bytes()].concat();
     let sizes = [0, 1, 0, 0].repeat(4);
     let tiles = vec![0; 8 * usize::from(cols) * usize::from(rows)];
-    let mut sheet = [head, sizes, vec![0], string(&vec![0xFF; color_record]), empty(), tiles].concat();
+    let mut sheet = [head, sizes, vec![0; 2], string(&vec![0xFF; color_record]), empty(), tiles].concat();
     for (bit, field) in fields.iter().enumerate() {
         if map >> bit & 1 == 1 {
             sheet.extend_from_slice(field);

@@ -67,7 +67,7 @@ fn written(sheet: &[u8]) -> Vec<u8> {
     let has = |bit: u8| map >> bit & 1 == 1;
     let (cols, rows) = (u32::from(r.n16()), u32::from(r.n16()));
     let dims = GridDims { cols, rows, tile_w: r.n32(), tile_h: r.n32(), full_w: r.n32(), full_h: r.n32() };
-    let bit_depth = r.depth();
+    let (bit_depth, alpha_bit_depth) = (r.depth(), Some(r.depth()));
     let (color_hvcc, alpha_hvcc) = (r.string(), r.string());
     let (color_lengths, alpha_lengths) = (r.lengths(cols * rows), r.lengths(cols * rows));
     let color_samples = Samples { lengths: &color_lengths, bytes: r.take(sum(&color_lengths)) };
@@ -92,8 +92,18 @@ fn written(sheet: &[u8]) -> Vec<u8> {
             .then(|| ColorMetadata { cicp: has(7).then(|| r.cicp()), icc: has(8).then(|| r.string()) }),
     });
     assert!(r.0.is_empty(), "bytes are left over");
-    let panel =
-        Panel { dims, bit_depth, color_hvcc, alpha_hvcc, color_samples, alpha_samples, color_meta, metadata, gain_map };
+    let panel = Panel {
+        dims,
+        bit_depth,
+        alpha_bit_depth,
+        color_hvcc,
+        alpha_hvcc,
+        color_samples,
+        alpha_samples,
+        color_meta,
+        metadata,
+        gain_map,
+    };
     to_vec(&panel).expect("every panel of the list is accepted")
 }
 

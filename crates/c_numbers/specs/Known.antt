@@ -1,4 +1,4 @@
--- Whether each code that is looked at stands for something: those of depth, orientation and colour, and the bytes that say yes or no. The codes
+-- Whether each code that is looked at stands for something: those of depths, orientation and colour, and the bytes that say yes or no. The codes
 -- of an absent part are not looked at; those of an alternate colour that is there are, with a tone map or without.
 use mathlib.Core.Bool.{Bool, not, _&&_, _||_}
 use lib.Dec.{eqb}
@@ -27,9 +27,13 @@ gain-known g =
     && cicp-known (g .cicp)
     && known-if (eqb (g .«has_alternate») 1) (colour-known (g .alternate))
 
+-- of colour and alpha
+abbrev pub depths-known : PanelCodes → Bool
+depths-known c = is-code Depth (c .«bit_depth») && is-code Depth (c .«alpha_bit_depth»)
+
 unfoldable pub panel-known : PanelCodes → Bool
 panel-known c =
-    is-code Depth (c .«bit_depth»)
+    depths-known c
     && is-code Orientation (c .orientation)
     && is-code YesNo (c .«has_light»)
     && is-code YesNo (c .«has_exif»)

@@ -56,6 +56,7 @@ panel-value c =
     record {
       dims = dims-value c;
       «bit_depth» = or (depth-named (c .«bit_depth»)) Eight;
+      «alpha_bit_depth» = or (depth-named (c .«alpha_bit_depth»)) Eight;
       «color_meta» = colour-value (c .color);
       metadata = metadata-value c;
       «gain_map» = cond (eqb (c .«has_gain») 1) (G.Some (gain-value (c .gain))) G.None;

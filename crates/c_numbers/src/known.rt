@@ -1,6 +1,6 @@
 // Whether each code of a panel that is looked at stands for something, part by part. The codes of an absent part are not looked at.
 ghost use mathlib.Core.Path.{_≡_};
-ghost use Rattle.c_numbers.specs.Known.{known-if, cicp-known, colour-known, gain-known, panel-known};
+ghost use Rattle.c_numbers.specs.Known.{known-if, cicp-known, colour-known, gain-known, depths-known, panel-known};
 use c_types::CicpCodes;
 use c_types::ColorCodes;
 use c_types::GainCodes;
@@ -46,13 +46,20 @@ fn gain_known(g: GainCodes) -> bool
         & known_if(g.has_alternate == 1, color_known(alternate))
 }
 
+fn depths_known(c: PanelCodes) -> bool
+    ensures { λ r. ⌜ r ≡ depths-known c ⌝ }
+{
+    is_code(CodeKind::Depth, c.bit_depth as u16)
+        & is_code(CodeKind::Depth, c.alpha_bit_depth as u16)
+}
+
 // Whether each code of a panel stands for something.
 pub fn panel_known(c: PanelCodes) -> bool
     ensures { λ r. ⌜ r ≡ panel-known c ⌝ }
 {
     let color = c.color;
     let gain = c.gain;
-    is_code(CodeKind::Depth, c.bit_depth as u16)
+    depths_known(c)
         & is_code(CodeKind::Orientation, c.orientation as u16)
         & is_code(CodeKind::YesNo, c.has_light as u16)
         & is_code(CodeKind::YesNo, c.has_exif as u16)

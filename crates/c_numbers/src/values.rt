@@ -80,6 +80,7 @@ pub fn panel_value(c: PanelCodes) -> Panel
     Panel {
         dims: dims_value(c),
         bit_depth: depth_named(c.bit_depth as u16).or_eight(),
+        alpha_bit_depth: depth_named(c.alpha_bit_depth as u16).or_eight(),
         color_meta: color_value(color),
         metadata: metadata_value(c),
         gain_map: gain_if(c.has_gain == 1, MaybeGainMap::Some(gain_value(gain))),

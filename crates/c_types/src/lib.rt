@@ -35,7 +35,7 @@ pub struct GainCodes {
     pub alternate: ColorCodes,
 }
 
-// The numbers of a panel. Depth: 0 to 2 for Eight to Twelve. Orientation: 0 to 7 in the enum's order.
+// The numbers of a panel. Depths: 0 to 2 for Eight to Twelve. Orientation: 0 to 7 in the enum's order.
 #[repr(C)]
 pub struct PanelCodes {
     pub cols: u32,
@@ -45,6 +45,7 @@ pub struct PanelCodes {
     pub full_w: u32,
     pub full_h: u32,
     pub bit_depth: u8,
+    pub alpha_bit_depth: u8,
     pub orientation: u8,
     pub has_light: u8,
     pub has_exif: u8,

@@ -1,5 +1,6 @@
 pub mod Items
 pub mod Ispe
+pub mod Pixi
 pub mod Colr
 pub mod Irot
 pub mod Imir

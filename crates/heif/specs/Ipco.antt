@@ -77,7 +77,7 @@ gain-slots size depth (some g) =
 abbrev pub slots : Panel → List (Role × List Box)
 slots p =
     colour-slots (p .dims) (p .depth) (p .tiles .hvcc) (p .colour)
-    ‖ alpha-slots (p .depth) (p .alpha .hvcc)
+    ‖ alpha-slots (p .alpha-depth) (p .alpha .hvcc)
     ‖ option-slots (p .colour) (p .metadata .orientation) (p .metadata .light)
     ‖ gain-slots (tone-ispe (p .dims) (p .metadata .orientation)) (pixi 3 (max (bits (p .depth)) 10)) (p .gain)
 

@@ -5,6 +5,7 @@ use Prim.Native.Nat.{ℕ}
 use lib.ListN.{replicate}
 use Rattle.panel.specs.Panel.{Colour, Metadata, Gain, Panel}
 use Rattle.panel.specs.Types.{unspecified}
+use Rattle.panel.specs.declared.fmt.BitDepth.{BitDepth}
 use Rattle.panel.specs.declared.fmt.BitDepth.the-variants.{Eight}
 use Rattle.panel.specs.declared.metadata.ContentLightLevel.{ContentLightLevel}
 use Rattle.panel.specs.declared.metadata.Orientation.{Orientation}
@@ -16,6 +17,7 @@ column rows width c colour metadata gain =
     record {
       dims = record { cols = 1; rows = rows; «tile_w» = 64; «tile_h» = 64; «full_w» = width; «full_h» = 64 };
       depth = Eight;
+      alpha-depth = Eight;
       tiles = record { hvcc = 0x01 ∷ 0x01 ∷ []; lengths = replicate rows 1; bytes = replicate rows c };
       alpha = record { hvcc = 0x01 ∷ 0x04 ∷ []; lengths = replicate rows 1; bytes = replicate rows 0xBB };
       colour = colour;
@@ -65,6 +67,10 @@ P-tone =
       tone = some [];
       alternate = none;
     }))
+
+-- the panel with other depths, of colour and alpha
+abbrev pub at-depths : BitDepth → BitDepth → Panel → Panel
+at-depths d a p = record { dims = p .dims; depth = d; alpha-depth = a; tiles = p .tiles; alpha = p .alpha; colour = p .colour; metadata = p .metadata; gain = p .gain }
 
 -- P with its colour stated as unspecified full-range
 abbrev pub P-stated : Panel

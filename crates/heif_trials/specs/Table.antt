@@ -1,9 +1,10 @@
--- The lettered trials, (a) to (k), in one table.
+-- The lettered trials, (a) to (k), and those of the alpha depth, in one table.
 use mathlib.Core.List.{List, [], _∷_}
 use Prim.Native.Nat.{ℕ}
 use Rattle.octets.specs.Numbers.{_‖_, be, text}
 use Rattle.panel.specs.Outcome.{made, refused}
 use Rattle.panel.specs.Panel.{Panel}
+use Rattle.panel.specs.declared.fmt.BitDepth.the-variants.{Eight, Twelve}
 use Rattle.heif_trials.specs.Panels
 use Rattle.heif_trials.specs.Trials.{Shown, box-at, bytes-at, item, payload, property, associated, Trial}
 
@@ -92,5 +93,22 @@ k =
     ∷ bytes-at 883 (be 4 8 ‖ be 4 2 ‖ be 4 7 ‖ be 4 2)
     ∷ [])
 
+-- (k) with alpha at a depth of its own: the colour grid's pixi and the tone map's stay with the colour's depth
+abbrev pub k-alpha-eight : Trial
+k-alpha-eight =
+    fits (Panels.at-depths Twelve Eight Panels.P-tone) 933
+    (property 5 "pixi" (0x00 ∷ 0x00 ∷ 0x00 ∷ 0x00 ∷ 0x03 ∷ 0x0C ∷ 0x0C ∷ 0x0C ∷ [])
+    ∷ property 7 "pixi" (0x00 ∷ 0x00 ∷ 0x00 ∷ 0x00 ∷ 0x01 ∷ 0x08 ∷ [])
+    ∷ property 15 "pixi" (0x00 ∷ 0x00 ∷ 0x00 ∷ 0x00 ∷ 0x03 ∷ 0x0C ∷ 0x0C ∷ 0x0C ∷ [])
+    ∷ [])
+
+abbrev pub k-alpha-twelve : Trial
+k-alpha-twelve =
+    fits (Panels.at-depths Eight Twelve Panels.P-tone) 933
+    (property 5 "pixi" (0x00 ∷ 0x00 ∷ 0x00 ∷ 0x00 ∷ 0x03 ∷ 0x08 ∷ 0x08 ∷ 0x08 ∷ [])
+    ∷ property 7 "pixi" (0x00 ∷ 0x00 ∷ 0x00 ∷ 0x00 ∷ 0x01 ∷ 0x0C ∷ [])
+    ∷ property 15 "pixi" (0x00 ∷ 0x00 ∷ 0x00 ∷ 0x00 ∷ 0x03 ∷ 0x0A ∷ 0x0A ∷ 0x0A ∷ [])
+    ∷ [])
+
 abbrev pub table : List Trial
-table = a ∷ b ∷ c ∷ d ∷ e ∷ f ∷ g ∷ h ∷ i ∷ j ∷ k ∷ []
+table = a ∷ b ∷ c ∷ d ∷ e ∷ f ∷ g ∷ h ∷ i ∷ j ∷ k ∷ k-alpha-eight ∷ k-alpha-twelve ∷ []

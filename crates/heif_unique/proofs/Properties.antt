@@ -13,7 +13,6 @@ use Rattle.panel.specs.Panel.{Colour, Gain, Panel}
 use Rattle.panel.specs.Agreement.{stated, shown, norm-gain}
 use Rattle.panel.specs.Widths.{Of, Gain-fits, Fits}
 use Rattle.panel.specs.Parts.{listed}
-use Rattle.panel.proofs.Codes.{bits-inj}
 use Rattle.heif.specs.Mdat.{gain-payloads}
 use Rattle.heif.specs.Colr.{second-colr, alternates}
 use Rattle.heif.specs.Pixi.{pixi}
@@ -26,10 +25,8 @@ use Rattle.heif.proofs.Colr.{nclx-inj, colour-inj, alternates-inj}
 use Rattle.heif.proofs.Imir.{orientation-inj}
 use Rattle.heif.proofs.Clli.{clli-inj}
 use Rattle.heif.proofs.Ispe.{ispe-inj}
-
--- the depth of a pixi's first channel, of the box at n
-depth-at : ℕ → List Box → ℕ
-depth-at n l = getD (body-at n l) 5 0
+use Rattle.heif.proofs.Pixi.{pixi-inj}
+use Rattle.heif.proofs.Ipco.{depths-told}
 
 -- ---- the gain map
 
@@ -59,14 +56,14 @@ gain-length s d s′ d′ (some g) (some h) e =
 -- properties and payloads together make the gain map
 pub gain-inj : (s d s′ d′ : Box) (g h : Option Gain) → Of Gain-fits g → Of Gain-fits h → held (gain-slots s d g) ≡ held (gain-slots s′ d′ h)
     → gain-payloads g ≡ gain-payloads h → norm-gain g ≡ norm-gain h
-unfolding body-at depth-at
+unfolding body-at
 gain-inj s d s′ d′ none none fg fh e p = refl
 gain-inj s d s′ d′ none (some h) fg fh e p = absurd (omega (arith, ap length e))
 gain-inj s d s′ d′ (some g) none fg fh e p = absurd (omega (arith, ap length e))
 gain-inj s d s′ d′ (some g) (some h) fg fh e p =
     let c : g .hvcc ≡ h .hvcc = ap (body-at 0) e in
     let z = ispe-inj (fg .width) (fg .height) (fh .width) (fh .height) (ap (body-at 1) e) in
-    let b = bits-inj (g .depth) (h .depth) (ap (depth-at 2) e) in
+    let b = pixi-inj 0 (g .depth) (h .depth) (ap (body-at 2) e) in
     let n = nclx-inj (g .cicp) (h .cicp) (ap (body-at 4) e) in
     let m : g .sample ≡ h .sample = cc in
     let x : g .xmp ≡ h .xmp = cc in
@@ -114,22 +111,25 @@ pub record Same-fields (p q : Panel) : Type 0 where
   pub tile : (p .dims .«tile_w» ≡ q .dims .«tile_w») × (p .dims .«tile_h» ≡ q .dims .«tile_h»)
   pub whole : (p .dims .«full_w» ≡ q .dims .«full_w») × (p .dims .«full_h» ≡ q .dims .«full_h»)
   pub depth : p .depth ≡ q .depth
+  pub alpha-depth : p .alpha-depth ≡ q .alpha-depth
   pub colour : stated (p .colour .cicp) (p .colour .icc) ≡ stated (q .colour .cicp) (q .colour .icc)
   pub orientation : p .metadata .orientation ≡ q .metadata .orientation
   pub light : p .metadata .light ≡ q .metadata .light
   pub gain : gain-props p ≡ gain-props q
 
 pub same-fields : (p q : Panel) → Fits p → Fits q → properties p ≡ properties q → Same-fields p q
-unfolding body-at depth-at option-at
+unfolding body-at option-at
 same-fields p q fp fq e =
     let a = row-inj "hvcC" kinds (options p) (options q) (gain-props p) (gain-props q) tt (gain-leads _ _ (p .gain)) (gain-leads _ _ (q .gain)) refl refl (ap (drop 8) e) in
+    let d = depths-told p q e in
     let at : (n : ℕ) → option-at n (options p) ≡ option-at n (options q) = λ n. ap (option-at n) (a .0) in
     record {
       hvcc = ap (body-at 0) e;
       alpha-hvcc = ap (body-at 5) e;
       tile = ispe-inj (fp .tile-w) (fp .tile-h) (fq .tile-w) (fq .tile-h) (ap (body-at 1) e);
       whole = ispe-inj (fp .full-w) (fp .full-h) (fq .full-w) (fq .full-h) (ap (body-at 2) e);
-      depth = bits-inj (p .depth) (q .depth) (ap (depth-at 4) e);
+      depth = d .0;
+      alpha-depth = d .1;
       colour = colour-inj (p .colour .cicp) (q .colour .cicp) (p .colour .icc) (q .colour .icc) (ap (body-at 3) e) (at 0);
       orientation = orientation-inj (p .metadata .orientation) (q .metadata .orientation) (at 1) (at 2);
       light = clli-inj (p .metadata .light) (q .metadata .light) (fp .light) (fq .light) (at 3);

@@ -136,6 +136,7 @@ module _ (f : Form) where
           same = λ i. record {
             dims = record { cols = s .1 i; rows = s .0 i; «tile_w» = k .tile .0 i; «tile_h» = k .tile .1 i; «full_w» = k .whole .0 i; «full_h» = k .whole .1 i };
             depth = k .depth i;
+            alpha-depth = k .alpha-depth i;
             tiles = record { hvcc = k .hvcc i; lengths = c .lengths i; bytes = c .bytes i };
             alpha = record { hvcc = k .alpha-hvcc i; lengths = l .lengths i; bytes = l .bytes i };
             colour = k .colour i;

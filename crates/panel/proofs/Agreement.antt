@@ -10,7 +10,7 @@ use Rattle.panel.specs.declared.color.Cicp.{Cicp}
 
 -- p with another colour and another gain map
 abbrev pub put : Panel → Colour → Option Gain → Panel
-put p c g = record { dims = p .dims; depth = p .depth; tiles = p .tiles; alpha = p .alpha; colour = c; metadata = p .metadata; gain = g }
+put p c g = record { dims = p .dims; depth = p .depth; alpha-depth = p .alpha-depth; tiles = p .tiles; alpha = p .alpha; colour = c; metadata = p .metadata; gain = g }
 
 -- p with another gain map alone; with its own it is the panel again
 abbrev pub with-gain : Panel → Option Gain → Panel
@@ -37,6 +37,7 @@ alter g t a =
 pub record Alike (p q : Panel) : Type 0 where
   pub dims : p .dims ≡ q .dims
   pub depth : p .depth ≡ q .depth
+  pub alpha-depth : p .alpha-depth ≡ q .alpha-depth
   pub tiles : p .tiles ≡ q .tiles
   pub alpha : p .alpha ≡ q .alpha
   pub orientation : p .metadata .orientation ≡ q .metadata .orientation
@@ -49,6 +50,7 @@ alike p q a =
     record {
       dims = ap (λ (r : Panel). r .dims) (a .same);
       depth = ap (λ (r : Panel). r .depth) (a .same);
+      alpha-depth = ap (λ (r : Panel). r .alpha-depth) (a .same);
       tiles = ap (λ (r : Panel). r .tiles) (a .same);
       alpha = ap (λ (r : Panel). r .alpha) (a .same);
       orientation = ap (λ (r : Panel). r .metadata .orientation) (a .same);

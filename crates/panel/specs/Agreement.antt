@@ -45,6 +45,7 @@ norm p =
     record {
       dims = p .dims;
       depth = p .depth;
+      alpha-depth = p .alpha-depth;
       tiles = p .tiles;
       alpha = p .alpha;
       colour = stated (p .colour .cicp) (p .colour .icc);

@@ -60,6 +60,7 @@ panel-of n l =
     record {
       dims = n .dims;
       depth = n .«bit_depth»;
+      alpha-depth = n .«alpha_bit_depth»;
       tiles = l .tiles;
       alpha = l .alpha;
       colour = colour-of (n .«color_meta») (l .icc);

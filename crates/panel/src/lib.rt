@@ -65,6 +65,7 @@ pub struct Shape {
 pub struct Panel {
     pub dims: GridDims,
     pub bit_depth: BitDepth,
+    pub alpha_bit_depth: BitDepth,
     pub color_meta: ColorMetadata,
     pub metadata: Metadata,
     pub gain_map: MaybeGainMap,

@@ -69,6 +69,7 @@ fn full() -> Panel {
             full_h: 40,
         },
         bit_depth: BitDepth::Ten,
+        alpha_bit_depth: BitDepth::Ten,
         color_meta: wide(),
         metadata: Metadata {
             orientation: Orientation::Transverse,

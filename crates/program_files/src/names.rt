@@ -16,8 +16,13 @@ use panel::metadata::Orientation;
 use panel::part::Part;
 use write_file::wrap_hevc_grid_with_alpha;
 
-// Writes panel P (one tile of 64 × 64, no option) with this depth, colour and orientation.
-fn write(bit_depth: BitDepth, cicp: MaybeCicp, orientation: Orientation) {
+// Writes panel P (one tile of 64 × 64, no option) with these depths, this colour and orientation.
+fn write(
+    bit_depth: BitDepth,
+    alpha_bit_depth: BitDepth,
+    cicp: MaybeCicp,
+    orientation: Orientation,
+) {
     let panel = Panel {
         dims: GridDims {
             cols: 1,
@@ -28,6 +33,7 @@ fn write(bit_depth: BitDepth, cicp: MaybeCicp, orientation: Orientation) {
             full_h: 64,
         },
         bit_depth,
+        alpha_bit_depth,
         color_meta: ColorMetadata {
             cicp,
             icc: Part::Absent,
@@ -63,12 +69,22 @@ fn write(bit_depth: BitDepth, cicp: MaybeCicp, orientation: Orientation) {
 
 // ---- P with one thing that is told of it
 
-fn deep(bit_depth: BitDepth) {
-    write(bit_depth, MaybeCicp::None, Orientation::Normal);
+fn deep(bit_depth: BitDepth, alpha_bit_depth: BitDepth) {
+    write(
+        bit_depth,
+        alpha_bit_depth,
+        MaybeCicp::None,
+        Orientation::Normal,
+    );
 }
 
 fn turned(orientation: Orientation) {
-    write(BitDepth::Eight, MaybeCicp::None, orientation);
+    write(
+        BitDepth::Eight,
+        BitDepth::Eight,
+        MaybeCicp::None,
+        orientation,
+    );
 }
 
 fn colored(primaries: Primaries, transfer: TransferFunction, matrix: MatrixCoefficients) {
@@ -78,15 +94,27 @@ fn colored(primaries: Primaries, transfer: TransferFunction, matrix: MatrixCoeff
         matrix,
         full_range: true,
     };
-    write(BitDepth::Eight, MaybeCicp::Some(cicp), Orientation::Normal);
+    write(
+        BitDepth::Eight,
+        BitDepth::Eight,
+        MaybeCicp::Some(cicp),
+        Orientation::Normal,
+    );
 }
 
 // ---- each value, by its name
 
+// Each two depths, the colour's first.
 fn depths() {
-    deep(BitDepth::Eight);
-    deep(BitDepth::Ten);
-    deep(BitDepth::Twelve);
+    deep(BitDepth::Eight, BitDepth::Eight);
+    deep(BitDepth::Eight, BitDepth::Ten);
+    deep(BitDepth::Eight, BitDepth::Twelve);
+    deep(BitDepth::Ten, BitDepth::Eight);
+    deep(BitDepth::Ten, BitDepth::Ten);
+    deep(BitDepth::Ten, BitDepth::Twelve);
+    deep(BitDepth::Twelve, BitDepth::Eight);
+    deep(BitDepth::Twelve, BitDepth::Ten);
+    deep(BitDepth::Twelve, BitDepth::Twelve);
 }
 
 // Each code point, three to a file; behind the last primaries stands Unspecified.

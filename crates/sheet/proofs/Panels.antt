@@ -19,6 +19,7 @@ gain-alike s r cl al (G.Some g) = refl
 pub sections : (s : List ℕ) (r : SheetRead) (color alpha : List ℕ) → record {
   dims = r .panel .dims;
   depth = r .panel .«bit_depth»;
+  alpha-depth = r .panel .«alpha_bit_depth»;
   tiles = pictures-of s (r .pictures) color alpha .colour;
   alpha = pictures-of s (r .pictures) color alpha .alpha;
   colour = colour-of (r .panel .«color_meta») (span-of s (r .icc));

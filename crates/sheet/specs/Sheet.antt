@@ -96,11 +96,12 @@ fields =
     sheet-map then λ m.
     dims then λ d.
     depth then λ k.
+    depth then λ a.
     two-pictures (d .rows * d .cols) then λ p.
     colour (m .cicp) (m .icc) then λ c.
     metadata m then λ x.
     optional (m .«gain_map») (gain m) then λ g.
-    end (record { dims = d; depth = k; tiles = p .colour; alpha = p .alpha; colour = c; metadata = x; gain = g })
+    end (record { dims = d; depth = k; alpha-depth = a; tiles = p .colour; alpha = p .alpha; colour = c; metadata = x; gain = g })
 
 -- 15 where the sheet is above 12,288 bytes, before all else
 unfoldable pub sheet : Reader Panel

@@ -48,12 +48,14 @@ pub fn read_sheet(sheet: &[u8], color: &mut [u32], alpha: &mut [u32]) -> SheetRe
     let d = read_dims(sheet, m.next);
     let dims = d.dims;
     let k = read_depth(sheet, d.next);
-    let p = read_pictures(sheet, k.next, dims.rows * dims.cols, color, alpha);
+    let a = read_depth(sheet, k.next);
+    let p = read_pictures(sheet, a.next, dims.rows * dims.cols, color, alpha);
     let c = read_color(sheet, p.next, map.cicp, map.icc);
     let x = read_metadata(sheet, c.next, map);
     let g = read_gain(sheet, x.next, map);
     let next = at_end(sheet, g.next);
     let bit_depth = k.depth;
+    let alpha_bit_depth = a.depth;
     let pictures = p.spans;
     let color_meta = c.color;
     let icc = c.icc;
@@ -65,6 +67,7 @@ pub fn read_sheet(sheet: &[u8], color: &mut [u32], alpha: &mut [u32]) -> SheetRe
         panel: Panel {
             dims,
             bit_depth,
+            alpha_bit_depth,
             color_meta,
             metadata,
             gain_map,

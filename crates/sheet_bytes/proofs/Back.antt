@@ -136,10 +136,11 @@ module _ (p : Panel) (h : Sayable p) where
       and-ends _ (off-map p (h .alternate))
       (and-ends _ off-dims
       (and-ends _ (off-depth (p .depth))
+      (and-ends _ (off-depth (p .alpha-depth))
       (and-ends _ (off-pictures (p .dims .rows * p .dims .cols) (pictures-in p) (h .colour) (h .alpha) (let b = bytes-short in omega (arith, h .colour .sum)) (let b = bytes-short in omega (arith, h .alpha .sum)))
       (and-ends _ (off-colour (p .colour))
       (and-ends _ (off-metadata p (h .fits .light))
-      (last-ends _ (off-optional (gain (present p)) gain-bytes (p .gain) (off-gains (present p) (p .gain) refl refl refl (h .fits .gain) (h .alternate)))))))))
+      (last-ends _ (off-optional (gain (present p)) gain-bytes (p .gain) (off-gains (present p) (p .gain) refl refl refl (h .fits .gain) (h .alternate))))))))))
 
   -- the sheet of a panel that a sheet can say gives the panel back
   pub back : sheet (sheet-bytes p) ≡ got p []

@@ -217,6 +217,6 @@ pub record Bounded (p : Panel) : Type 0 where
 pub a-panel : Yields fields Bounded
 unfolding fields
 a-panel =
-    seq _ a-map (λ m h. seq _ some-dims (λ d h. seq _ (a-code 1 _) (λ k h. seq _ (both-pictures (d .rows * d .cols)) (λ p hp.
+    seq _ a-map (λ m h. seq _ some-dims (λ d h. seq _ (a-code 1 _) (λ k h. seq _ (a-code 1 _) (λ a h. seq _ (both-pictures (d .rows * d .cols)) (λ p hp.
     seq _ (a-colour (m .cicp) (m .icc)) (λ c hc. seq _ (some-metadata m) (λ x hx. seq _ (maybe (m .«gain_map») (a-gain m)) (λ g hg.
-    ended _ (record { pictures = hp; colour = hc; metadata = hx; gain = hg }))))))))
+    ended _ (record { pictures = hp; colour = hc; metadata = hx; gain = hg })))))))))

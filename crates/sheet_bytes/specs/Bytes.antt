@@ -125,6 +125,7 @@ sheet-bytes p =
     be 2 (bits-of (present p))
     ‖ dims-bytes (p .dims)
     ‖ be 1 (depth-code (p .depth))
+    ‖ be 1 (depth-code (p .alpha-depth))
     ‖ pictures-bytes (pictures-in p)
     ‖ colour-bytes (p .colour)
     ‖ metadata-bytes (p .metadata)

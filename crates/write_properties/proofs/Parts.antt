@@ -46,7 +46,7 @@ module _ (n : Numbers) (l : Lent) where
   abbrev with-gain : Slots → Slots
   with-gain g =
       colour-slots (n .dims) (n .«bit_depth») (l .tiles .hvcc) (colour-of (n .«color_meta») (l .icc))
-      ‖ alpha-slots (n .«bit_depth») (l .alpha .hvcc)
+      ‖ alpha-slots (n .«alpha_bit_depth») (l .alpha .hvcc)
       ‖ options
       ‖ g
 
@@ -62,7 +62,7 @@ module _ (n : Numbers) (l : Lent) where
   abbrev written : List Box → List Box
   written g =
       held (colour-slots (n .dims) (n .«bit_depth») (l .tiles .hvcc) (colour-of (n .«color_meta») (l .icc)))
-      ‖ held (alpha-slots (n .«bit_depth») (l .alpha .hvcc))
+      ‖ held (alpha-slots (n .«alpha_bit_depth») (l .alpha .hvcc))
       ‖ held options
       ‖ g
 
@@ -70,7 +70,7 @@ module _ (n : Numbers) (l : Lent) where
   joined g =
       ap
       (λ (r : List Box).
-      held (colour-slots (n .dims) (n .«bit_depth») (l .tiles .hvcc) (colour-of (n .«color_meta») (l .icc))) ‖ held (alpha-slots (n .«bit_depth») (l .alpha .hvcc)) ‖ r)
+      held (colour-slots (n .dims) (n .«bit_depth») (l .tiles .hvcc) (colour-of (n .«color_meta») (l .icc))) ‖ held (alpha-slots (n .«alpha_bit_depth») (l .alpha .hvcc)) ‖ r)
       (sym (held-append options g))
 
 pub ipco-joined : (n : Numbers) (l : Lent)

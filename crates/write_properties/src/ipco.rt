@@ -152,13 +152,14 @@ pub fn write_ipco(
 {
     let dims = panel.dims;
     let depth = panel.bit_depth;
+    let alpha_depth = panel.alpha_bit_depth;
     let color = panel.color_meta;
     let metadata = panel.metadata;
     let orientation = metadata.orientation;
     let gain = panel.gain_map;
     let a = write_box(out, at, size, b"ipco");
     let b = write_color_properties(out, a, dims, depth, color, color_hvcc, icc);
-    let c = write_alpha_properties(out, b, depth, alpha_hvcc);
+    let c = write_alpha_properties(out, b, alpha_depth, alpha_hvcc);
     let d = write_optional_properties(out, c, color, icc, metadata);
     write_gain_properties(
         out,

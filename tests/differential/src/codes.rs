@@ -36,6 +36,7 @@ const MATRICES: &[RangeInclusive<u16>] = &[0..=17];
 fn fields() -> Vec<Field> {
     vec![
         byte("bit_depth", DEPTHS, |p, v| p.bit_depth = v as u8),
+        byte("alpha_bit_depth", DEPTHS, |p, v| p.alpha_bit_depth = v as u8),
         byte("orientation", ORIENTATIONS, |p, v| p.orientation = v as u8),
         byte("has_light", YES_NO, |p, v| p.has_light = v as u8),
         byte("has_exif", YES_NO, |p, v| p.has_exif = v as u8),

@@ -79,6 +79,12 @@ impl Coverage {
         for depth in BitDepth::ALL {
             self.add(format!("depth {depth:?}"), move |c| c.bit_depth == depth);
             self.add(format!("gain map's depth {depth:?}"), move |c| gained(c, |g| g.bit_depth == depth));
+            for alpha in BitDepth::ALL {
+                let both = move |c: &Case| (c.bit_depth, c.alpha_bit_depth) == (depth, alpha);
+                self.add(format!("depth {depth:?}, alpha's {alpha:?}"), both);
+                let toned = move |c: &Case| both(c) && gained(c, |g| g.tmap.is_some());
+                self.add(format!("depth {depth:?}, alpha's {alpha:?}, beside a tone map"), toned);
+            }
         }
         for orientation in Orientation::ALL {
             self.add(format!("{orientation:?}"), move |c| c.orientation == orientation);

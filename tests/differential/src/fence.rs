@@ -5,7 +5,7 @@ use crate::memory::{Fenced, Side};
 use crate::panels::Case;
 use crate::random::{self, Rng};
 use crate::run::Run;
-use crate::{predict, raw, upstream};
+use crate::{predict, raw, reference};
 use kahopiru::sys;
 
 fn list(lengths: &[u32], side: Side) -> Fenced {
@@ -14,7 +14,7 @@ fn list(lengths: &[u32], side: Side) -> Fenced {
 
 /// Both calls on a panel all of whose parts are fenced, into an output that is fenced too.
 fn fenced(case: &Case, side: Side, rng: &mut Rng) -> Result<(), String> {
-    let file = upstream::write(case)?;
+    let file = reference::file(case)?;
     let numbers = raw::numbers(case, rng);
     let lent = raw::lent(case, &[0xD7]);
     let part = |bytes| Fenced::new(bytes, side);

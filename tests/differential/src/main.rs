@@ -14,6 +14,7 @@ mod predict;
 mod random;
 mod raw;
 mod reader;
+mod reference;
 mod run;
 mod selftest;
 mod sets;
@@ -118,6 +119,7 @@ fn everything(options: &Options) -> Run {
     set("lettered trials", &mut run, trials::run);
     set("grids", &mut run, sets::grids);
     set("combinations", &mut run, sets::combinations);
+    set("depths", &mut run, sets::depths);
     set("descriptors", &mut run, sets::descriptors);
     set("last ids", &mut run, sets::last_ids);
     set("refusals", &mut run, sets::refusals);

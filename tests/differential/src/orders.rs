@@ -12,8 +12,8 @@ use crate::sheets::{self, ROOM};
 use crate::tiles::{self, MOST_TILES};
 use kahopiru::{sys, Cicp, Refusal, Samples};
 
-/// The checks of each call, in the order in which they are made; that 13 comes before them, codes.rs tries. Where a sheet is spoiled, the reading meets the depth
-/// (13) before the end (11).
+/// The checks of each call, in the order in which they are made; that 13 comes before them, codes.rs tries. Where a sheet is spoiled, the reading meets the alpha
+/// depth (13) before the end (11).
 const ORDERS: [(&str, &[u32]); 4] = [
     ("write", &[1, 2, 3, 4, 5, 6]),
     ("file_length", &[1, 2, 3, 4, 5]),
@@ -118,7 +118,7 @@ fn spoiled_sheet(pair: Pair) -> Vec<u8> {
         bytes[0] |= 1 << 1; // bit 9 of the map
     }
     if has(13) {
-        bytes[22] = 3; // the depth
+        bytes[23] = 3; // the alpha depth
     }
     if has(11) {
         bytes.pop();

@@ -31,6 +31,7 @@ pub struct Gain {
 pub struct Case {
     pub dims: GridDims,
     pub bit_depth: BitDepth,
+    pub alpha_bit_depth: BitDepth,
     pub color_hvcc: Vec<u8>,
     pub alpha_hvcc: Vec<u8>,
     pub color_lengths: Vec<u32>,
@@ -72,6 +73,7 @@ impl Case {
         Panel {
             dims: self.dims,
             bit_depth: self.bit_depth,
+            alpha_bit_depth: Some(self.alpha_bit_depth),
             color_hvcc: &self.color_hvcc,
             alpha_hvcc: &self.alpha_hvcc,
             color_samples: Samples { lengths: &self.color_lengths, bytes: &self.color_samples },
@@ -95,6 +97,11 @@ impl Case {
         self.color_lengths = color;
         self.alpha_lengths = alpha;
         self
+    }
+
+    /// The same panel with this depth for colour and alpha.
+    pub fn with_depth(self, depth: BitDepth) -> Case {
+        Case { bit_depth: depth, alpha_bit_depth: depth, ..self }
     }
 
     /// The same panel with a grid of empty tiles.
@@ -136,7 +143,6 @@ pub const LIGHT: ContentLightLevel =
 /// P with every part present and nothing empty.
 pub fn full() -> Case {
     Case {
-        bit_depth: BitDepth::Ten,
         color: Color { cicp: Some(Cicp::srgb()), icc: Some(vec![1, 2, 3]) },
         orientation: Orientation::Transverse,
         light: Some(LIGHT),
@@ -149,6 +155,6 @@ pub fn full() -> Case {
             bit_depth: BitDepth::Twelve,
             ..small_gain(None)
         }),
-        ..p()
+        ..p().with_depth(BitDepth::Ten)
     }
 }

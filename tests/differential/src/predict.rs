@@ -36,7 +36,7 @@ pub fn holding(panel: &Panel<'_>, room: Option<usize>) -> Vec<u32> {
 }
 
 /// How many tiles each picture has.
-fn tiles(panel: &Panel<'_>) -> i128 {
+pub fn tiles(panel: &Panel<'_>) -> i128 {
     i128::from(panel.dims.rows) * i128::from(panel.dims.cols)
 }
 
@@ -45,9 +45,13 @@ fn sums(s: Samples<'_>) -> bool {
     s.lengths.iter().map(|&l| i128::from(l)).sum::<i128>() == s.bytes.len() as i128
 }
 
+/// One for what is there.
+pub fn one_if(present: bool) -> i128 {
+    i128::from(present)
+}
+
 /// The last item id: both tile lists and both grids, then Exif, gain image, XMP, tone map.
 fn last_id(panel: &Panel<'_>) -> i128 {
-    let one_if = |present: bool| i128::from(present);
     let tone = panel.gain_map.is_some_and(|g| g.tmap.is_some());
     2 * tiles(panel) + 2 + one_if(panel.metadata.exif.is_some()) + 2 * one_if(panel.gain_map.is_some()) + one_if(tone)
 }
@@ -57,7 +61,7 @@ fn bytes(part: &[u8]) -> i128 {
 }
 
 /// Whether a decoder configuration record is of the range extensions profile.
-fn rext(record: &[u8]) -> bool {
+pub fn rext(record: &[u8]) -> bool {
     record.get(1).is_some_and(|byte| byte & 0x1F == 4)
 }
 

@@ -122,10 +122,13 @@ pub fn panel(rng: &mut Rng) -> Case {
     let (cols, rows) = grid(rng);
     let tiles = cols * rows;
     let (color_lengths, alpha_lengths) = (lengths(rng, tiles), lengths(rng, tiles));
+    let bit_depth = rng.pick(&BitDepth::ALL);
     let samples = |rng: &mut Rng, lengths: &[u32]| (0..lengths.iter().sum()).map(|_| rng.next() as u8).collect();
     let mut case = Case {
         dims: GridDims { cols, rows, tile_w: size(rng), tile_h: size(rng), full_w: size(rng), full_h: size(rng) },
-        bit_depth: rng.pick(&BitDepth::ALL),
+        bit_depth,
+        // Upstream has one depth for both.
+        alpha_bit_depth: if rng.once_in(2) { bit_depth } else { rng.pick(&BitDepth::ALL) },
         color_hvcc: record(rng),
         alpha_hvcc: record(rng),
         color_samples: samples(rng, &color_lengths),

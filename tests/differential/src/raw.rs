@@ -85,6 +85,7 @@ pub fn numbers(case: &Case, rng: &mut Rng) -> sys::Panel {
         full_w: case.dims.full_w,
         full_h: case.dims.full_h,
         bit_depth: case.bit_depth as u8,
+        alpha_bit_depth: case.alpha_bit_depth as u8,
         orientation: case.orientation as u8,
         has_light: case.light.is_some() as u8,
         has_exif: case.exif.is_some() as u8,

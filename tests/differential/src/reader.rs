@@ -123,7 +123,7 @@ pub fn read(sheet: &[u8]) -> (Vec<u32>, Case) {
 fn fields(left: &mut Left<'_>, stands: impl Fn(u32) -> bool) -> Case {
     let (cols, rows) = (left.number(2), left.number(2));
     let [tile_w, tile_h, full_w, full_h] = std::array::from_fn(|_| left.number(4));
-    let bit_depth = left.depth();
+    let (bit_depth, alpha_bit_depth) = (left.depth(), left.depth());
     let (color_hvcc, alpha_hvcc) = (left.string(), left.string());
     let tiles = u64::from(cols) * u64::from(rows);
     let (color_lengths, alpha_lengths) = (left.lengths(tiles), left.lengths(tiles));
@@ -142,6 +142,7 @@ fn fields(left: &mut Left<'_>, stands: impl Fn(u32) -> bool) -> Case {
     Case {
         dims: GridDims { cols, rows, tile_w, tile_h, full_w, full_h },
         bit_depth,
+        alpha_bit_depth,
         color_hvcc,
         alpha_hvcc,
         color_lengths,

@@ -4,7 +4,7 @@ use crate::compare::{judge, said, same_answer, same_file, Room};
 use crate::panels::Case;
 use crate::predict::{self, Answer};
 use crate::random::Rng;
-use crate::{raw, upstream};
+use crate::{raw, reference};
 use kahopiru::{sys, Refusal};
 use std::collections::BTreeMap;
 
@@ -55,7 +55,7 @@ impl Run {
     fn compare(&mut self, case: &Case, expected: Answer) -> Result<(), String> {
         let file = match expected {
             Ok(length) => {
-                let file = upstream::write(case).map_err(|e| format!("upstream: {e}"))?;
+                let file = reference::file(case).map_err(|e| format!("upstream: {e}"))?;
                 if file.len() as u64 != length {
                     return Err(format!(
                         "upstream's file has {} bytes, the specification {}",

@@ -3,10 +3,27 @@
 
 use crate::compare::{judge, same_answer, same_file, Room};
 use crate::orders;
-use crate::panels::full;
+use crate::panels::{full, Case};
+use crate::{reference, upstream};
+use kahopiru::BitDepth;
 
 /// A difference that is made on purpose, and whether the comparison reported it.
 type Trial = (&'static str, Result<(), String>);
+
+/// Depths at a wrong place, or not the panel's.
+fn alpha_depths() -> Vec<Trial> {
+    let case = Case { bit_depth: BitDepth::Twelve, alpha_bit_depth: BitDepth::Eight, ..full() };
+    let (file, of_one_depth) = (reference::file(&case).unwrap_or_default(), upstream::write(&case).unwrap_or_default());
+    let at = reference::alpha_depth_at(&case.panel());
+    let exchanged = Case { bit_depth: BitDepth::Eight, alpha_bit_depth: BitDepth::Twelve, ..case };
+    let written = kahopiru::to_vec(&exchanged.panel()).unwrap_or_default();
+    vec![
+        ("the colour's depth for alpha", same_file(&file, &of_one_depth)),
+        ("two depths exchanged", same_file(&file, &written)),
+        ("a place one byte too far", reference::put_alpha_depth(&mut of_one_depth.clone(), at + 1, [12, 8])),
+        ("a file of another depth", reference::put_alpha_depth(&mut of_one_depth.clone(), at, [10, 8])),
+    ]
+}
 
 /// Answers the differences that went unnoticed, and how many were made.
 pub fn run() -> (Vec<String>, usize) {
@@ -40,7 +57,8 @@ pub fn run() -> (Vec<String>, usize) {
         ("a wrong length alone", same_answer(Ok(556), Ok(557))),
         ("a shorter file", same_file(&file, &file[1..])),
     ];
-    let mut seen: Vec<(String, bool)> = trials.into_iter().map(|(name, seen)| (name.into(), seen.is_err())).collect();
+    let trials = trials.into_iter().chain(alpha_depths());
+    let mut seen: Vec<(String, bool)> = trials.map(|(name, seen)| (name.into(), seen.is_err())).collect();
     seen.extend(orders::exchanges());
     let made = seen.len();
     let mut unnoticed: Vec<_> = seen.into_iter().filter(|(_, reported)| !reported).map(|(name, _)| name).collect();

@@ -1,8 +1,8 @@
 //! Sets of panels that are listed, not drawn.
 
-use crate::panels::{full, p, small_gain, Case, Color, LIGHT};
+use crate::panels::{full, p, small_gain, Case, Color, Gain, LIGHT};
 use crate::run::Run;
-use kahopiru::{Cicp, Orientation};
+use kahopiru::{BitDepth, Cicp, Orientation};
 
 /// Every grid from 1 × 1 to 8 × 8, its samples of different lengths, empty ones among them.
 pub fn grids(run: &mut Run) {
@@ -37,6 +37,28 @@ pub fn combinations(run: &mut Run) {
         }
     }
     assert_eq!(count, 384);
+}
+
+/// Each two depths of colour and alpha, in panels that have different things in front of the alpha depth.
+pub fn depths(run: &mut Run) {
+    let profile = Color { cicp: None, icc: Some(vec![7; 5]) };
+    let gain = |hvcc: &[u8], tmap| Some(Gain { hvcc: hvcc.to_vec(), ..small_gain(tmap) });
+    for bit_depth in BitDepth::ALL {
+        for alpha_bit_depth in BitDepth::ALL {
+            for case in [
+                p(),
+                full(),
+                p().with_grid(3, 2, vec![1, 2, 3, 4, 5, 6], vec![6, 5, 4, 3, 2, 1]),
+                Case { color_hvcc: vec![1; 40], alpha_hvcc: vec![], ..p() },
+                Case { color: profile.clone(), exif: Some(vec![1, 2]), ..p() },
+                Case { gain: gain(&[1, 4], None), ..p() },
+                Case { gain: gain(&[1, 4], Some(vec![9])), color_hvcc: vec![1, 4], ..p() },
+                Case { color: profile.clone(), ..full() },
+            ] {
+                run.panel(&format!("{bit_depth:?}, alpha {alpha_bit_depth:?}"), &Case { bit_depth, alpha_bit_depth, ..case });
+            }
+        }
+    }
 }
 
 /// Sizes on either side of where the descriptor widens, for either side of the picture.

@@ -87,6 +87,7 @@ fn always(out: &mut Vec<u8>, case: &Case) {
         put32(out, size);
     }
     out.push(case.bit_depth.code());
+    out.push(case.alpha_bit_depth.code());
     bytes(out, &case.color_hvcc);
     bytes(out, &case.alpha_hvcc);
     case.color_lengths.iter().chain(&case.alpha_lengths).for_each(|&l| put32(out, l));

@@ -6,7 +6,7 @@ use crate::predict::{self, Answer};
 use crate::random::{self, Rng};
 use crate::run::Run;
 use crate::sheet::{every_field, sheet};
-use crate::{raw, reader, upstream};
+use crate::{raw, reader, reference};
 use kahopiru::sys;
 use std::collections::BTreeMap;
 use std::io::Write;
@@ -43,7 +43,7 @@ fn expected(sheet: &[u8], room: usize) -> (Answer, Vec<u8>) {
     let (refusals, case) = holding(sheet, room);
     match refusals.first() {
         Some(&number) => (Err(number), Vec::new()),
-        None => (predict::answer(&case.panel(), Some(room)), upstream::write(&case).unwrap_or_default()),
+        None => (predict::answer(&case.panel(), Some(room)), reference::file(&case).unwrap_or_default()),
     }
 }
 

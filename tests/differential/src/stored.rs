@@ -1,7 +1,7 @@
 //! What the program crate program_files must write, from upstream's writer: panel P with each value of each enum, by
-//! upstream's own names and not the binding's; a panel with every part; and the tiles of both.
+//! upstream's own names and not the binding's, its alpha at each depth; a panel with every part; and the tiles of both.
 
-use crate::tiles;
+use crate::{panels, reference, tiles};
 use kahopiru::Samples;
 use oracle::color::{Cicp, ColorMetadata, MatrixCoefficients, Primaries, TransferFunction};
 use oracle::fmt::BitDepth;
@@ -41,9 +41,8 @@ fn by_codes(primaries: Primaries, transfer: TransferFunction, matrix: MatrixCoef
     Told { color: ColorMetadata { cicp: Some(cicp), icc: None }, ..p() }
 }
 
-/// The depths, the colours by their codes, the orientations.
+/// The colours by their codes, the orientations.
 fn every_value() -> Vec<Told> {
-    let depths = every!(BitDepth: Eight Ten Twelve);
     let primaries = every!(Primaries: Reserved Bt709 Unspecified Bt470M Bt470Bg Bt601 Smpte240 GenericFilm Bt2020 Xyz
         Smpte431 Smpte432 Ebu3213);
     let transfers = every!(TransferFunction: Reserved Bt709 Unspecified Bt470M Bt470Bg Bt601 Smpte240 Linear Log100
@@ -54,10 +53,23 @@ fn every_value() -> Vec<Told> {
     // There are fewer primaries than matrices.
     let primaries = primaries.into_iter().chain(std::iter::repeat(Primaries::Unspecified));
     let colors = primaries.zip(transfers).zip(matrices).map(|((p, t), m)| by_codes(p, t, m));
-    let mut all = Vec::from(depths.map(|bit_depth| Told { bit_depth, ..p() }));
-    all.extend(colors);
+    let mut all: Vec<Told> = colors.collect();
     all.extend(orientations.map(|orientation| Told { orientation, ..p() }));
     all
+}
+
+/// P's files at each depth, with alpha at each.
+fn every_depth() -> Result<Vec<Vec<u8>>, String> {
+    let at = reference::alpha_depth_at(&panels::p().panel());
+    let mut files = Vec::new();
+    for (bit_depth, bits) in every!(BitDepth: Eight Ten Twelve).into_iter().zip([8, 10, 12]) {
+        let file = oracle::write(&p_with(Told { bit_depth, ..p() }))?;
+        for alpha_bits in [8, 10, 12] {
+            files.push(file.clone());
+            reference::put_alpha_depth(files.last_mut().expect("one was pushed"), at, [bits, alpha_bits])?;
+        }
+    }
+    Ok(files)
 }
 
 /// The lengths and the samples of a panel, colour and alpha.
@@ -181,6 +193,9 @@ fn output(file: &[u8], count: usize) -> Result<Vec<u8>, String> {
 
 pub fn bytes() -> Result<Vec<u8>, String> {
     let mut all = Vec::new();
+    for file in every_depth()? {
+        all.extend(output(&file, OUTPUT)?);
+    }
     for told in every_value() {
         all.extend(output(&oracle::write(&p_with(told))?, OUTPUT)?);
     }

@@ -92,7 +92,7 @@ pub fn panel(case: &Case) -> oracle::Panel<'_> {
     }
 }
 
-/// Upstream's file for a panel, or what it says instead.
+/// Upstream's file for a panel, or what it says instead. Its one depth is the colour's.
 pub fn write(case: &Case) -> Result<Vec<u8>, String> {
     oracle::write(&panel(case))
 }

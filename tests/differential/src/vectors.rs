@@ -1,9 +1,10 @@
 //! A fixed list of upstream's files, to be replayed where neither upstream's source nor Rust is at hand. Each line is a
-//! name, the panel's sheet and upstream's file, both in hexadecimal.
+//! name, the panel's sheet and upstream's file, both in hexadecimal; where alpha has a depth of its own, upstream's with
+//! that depth in its place (reference.rs).
 
 use crate::panels::{full, p, small_gain, Case, Color, Gain, LIGHT};
+use crate::reference;
 use crate::sheet::sheet;
-use crate::upstream;
 use kahopiru::{BitDepth, Cicp, MatrixCoefficients, Orientation, Primaries, TransferFunction};
 
 /// What the whole list may take, and one file of it.
@@ -48,8 +49,10 @@ fn options() -> Vec<Vector> {
         named("light", |c| c.light = Some(LIGHT)),
         named("exif-empty", |c| c.exif = Some(vec![])),
         named("exif", |c| c.exif = Some(b"MM\0*".to_vec())),
-        named("ten-bits", |c| c.bit_depth = BitDepth::Ten),
-        named("twelve-bits", |c| c.bit_depth = BitDepth::Twelve),
+        ("ten-bits".into(), p().with_depth(BitDepth::Ten)),
+        ("twelve-bits".into(), p().with_depth(BitDepth::Twelve)),
+        named("twelve-bits-alpha-eight", |c| c.bit_depth = BitDepth::Twelve),
+        named("eight-bits-alpha-ten", |c| c.alpha_bit_depth = BitDepth::Ten),
         named("records-empty", |c| (c.color_hvcc, c.alpha_hvcc) = (vec![], vec![])),
         named("record-of-one", |c| c.color_hvcc = vec![4]),
         named("rext-colour", |c| c.color_hvcc = vec![1, 0x64, 9]),
@@ -92,7 +95,8 @@ fn together() -> Vec<Vector> {
         ("two-rows".into(), p().with_grid(1, 2, vec![0, 0], vec![0, 0])),
         ("full".into(), full()),
         ("full-of-tiles".into(), full().with_grid(3, 1, vec![2, 0, 1], vec![1, 1, 1])),
-        ("full-turned".into(), Case { orientation: Orientation::Transpose, bit_depth: BitDepth::Twelve, ..full() }),
+        ("full-turned".into(), Case { orientation: Orientation::Transpose, ..full() }.with_depth(BitDepth::Twelve)),
+        ("full-alpha-twelve".into(), Case { alpha_bit_depth: BitDepth::Twelve, ..full() }),
         ("full-both-rext".into(), Case { color_hvcc: vec![1, 4], orientation: Orientation::FlipV, ..full() }),
     ]
 }
@@ -105,7 +109,7 @@ fn hex(bytes: &[u8]) -> String {
 pub fn text() -> Result<String, String> {
     let mut text = String::new();
     for (name, case) in [trials(), options(), gains(), together()].concat() {
-        let file = upstream::write(&case).map_err(|e| format!("{name}: upstream: {e}"))?;
+        let file = reference::file(&case).map_err(|e| format!("{name}: upstream: {e}"))?;
         if file.len() > MOST_FILE {
             return Err(format!("{name}: a file of {} bytes is too long for the list", file.len()));
         }

@@ -78,7 +78,7 @@ pub fn written(sheet: &[u8]) -> Result<Vec<u8>, String> {
     }
     let (cols, rows) = (rest.u16()?.into(), rest.u16()?.into());
     let [tile_w, tile_h, full_w, full_h] = [rest.u32()?, rest.u32()?, rest.u32()?, rest.u32()?];
-    let bit_depth = rest.of(&BitDepth::ALL)?;
+    let (bit_depth, alpha_bit_depth) = (rest.of(&BitDepth::ALL)?, Some(rest.of(&BitDepth::ALL)?));
     let (color_hvcc, alpha_hvcc) = (rest.string()?, rest.string()?);
     let (color_lengths, alpha_lengths) = (rest.lengths(cols * rows)?, rest.lengths(cols * rows)?);
     let color_samples = Samples { lengths: &color_lengths, bytes: rest.take(sum(&color_lengths))? };
@@ -86,6 +86,7 @@ pub fn written(sheet: &[u8]) -> Result<Vec<u8>, String> {
     let panel = Panel {
         dims: GridDims { cols, rows, tile_w, tile_h, full_w, full_h },
         bit_depth,
+        alpha_bit_depth,
         color_hvcc,
         alpha_hvcc,
         color_samples,
