@@ -10,6 +10,7 @@ import tempfile
 
 import panels  # before all else: it says where the example's modules are
 import compare
+import library
 import programs
 import wide
 from parts import cards, hevc, sheet
@@ -63,7 +64,7 @@ def check_payloads(tally, files):
 def check_readers(tally, files):
     """Each reader on each file; the versions of the readers."""
     convert, magick, info, exiftool = programs.HeifConvert(), programs.Magick(), programs.HeifInfo(), programs.Exiftool()
-    decoders = [convert]
+    decoders = [convert, library.Library()]
     if magick.libheif is None:
         tally.reports.append("ImageMagick: it is built without HEIF, and is left out")
     else:
@@ -73,26 +74,29 @@ def check_readers(tally, files):
             with tempfile.TemporaryDirectory() as room:
                 compare.decoded(tally, reader, path, meant, pathlib.Path(room))
         compare.described(tally, info, path, meant)
-    tags = exiftool.read([str(path) for path in files])
+    names = [str(path) for path in files]
+    tags, depths = exiftool.read(names), exiftool.depths(names)
     for path, meant in files.items():
-        compare.tagged(tally, tags.get(str(path), {"Error": "no answer"}), meant)
+        compare.tagged(tally, tags.get(str(path), {"Error": "no answer"}), depths.get(str(path), []), meant)
     versions = {reader.name: reader.version() for reader in decoders}
     return {**versions, info.name: f"libheif {info.libheif}", "exiftool": exiftool.version()}
 
 
 def check_comparison(tally, writer, cache, room):
     """The comparison sees what it should: with two alpha tiles, or two colour tiles, exchanged a file does not pass."""
-    for which in ("alpha", "color"):
-        meant = panels.meant(panels.Case(f"exchanged-{which}"), cache)
+    convert, itself = programs.HeifConvert(), library.Library()
+    two_depths = {"depth": 12, "alpha_depth": 8, "difference": "S11"}
+    for which, readers, depths in (("alpha", (convert, itself), {}), ("color", (convert, itself), {}), ("alpha", (itself,), two_depths)):
+        meant = panels.meant(panels.Case(f"exchanged-{which}", **depths), cache)
         samples = getattr(meant.panel, f"{which}_samples")
         samples[0], samples[1] = samples[1], samples[0]
         (path,) = write(writer, [meant], room)
-        found = compare.Tally()
-        inner = room / which
-        inner.mkdir()
-        compare.decoded(found, programs.HeifConvert(), path, meant, inner)
-        if len(found.failures) != 1:
-            tally.fail("heif-convert", meant.name, "the exchange of two tiles is not seen")
+        for reader in readers:
+            found = compare.Tally()
+            with tempfile.TemporaryDirectory() as inner:
+                compare.decoded(found, reader, path, meant, pathlib.Path(inner))
+            if len(found.failures) != 1:
+                tally.fail(reader.name, meant.name, "the exchange of two tiles is not seen")
 
 
 def main(writer, cache):

@@ -46,7 +46,7 @@ def decoded(tally, reader, file, meant, room):
     try:
         seen = reader.read(file, room)
     except programs.Refused as refusal:
-        if meant.difference in ("S2", "S4"):
+        if meant.difference in ("S2", "S4") or meant.difference == "S11" and reader.makes_one_depth:
             tally.note(reader, meant.name, meant.difference, expected.REFUSED)
         else:
             tally.fail(reader.name, meant.name, f"refused: {refusal}")
@@ -56,6 +56,8 @@ def decoded(tally, reader, file, meant, room):
         tally.note(reader, meant.name, meant.difference, expected.SHOWN)
     elif meant.difference == "S1":
         _mirrored(tally, reader, meant, seen)
+    elif meant.difference == "S11":
+        _of_two_depths(tally, reader, meant, seen)
     else:
         _pictures(tally, reader, meant, seen)
 
@@ -70,16 +72,37 @@ def _mirrored(tally, reader, meant, seen):
     tally.fail(reader.name, meant.name, "neither as meant nor as the other mirrored orientation of its pair")
 
 
+def _of_two_depths(tally, reader, meant, seen):
+    """The colour is shown as meant, and the alpha as far as the bits of both reach. A reader that makes one depth of the
+    two may show another alpha, if its version is known for that."""
+    if not _shows(meant.colour, None, seen, _allowed(reader, meant)):
+        tally.fail(reader.name, meant.name, "the colour is not what was written")
+        return
+    alpha = meant.alpha.at_depth(min(meant.alpha.depth, meant.colour.depth))
+    as_meant = seen.alpha is not None and _same_alpha(alpha, seen)
+    if reader.makes_one_depth:
+        tally.note(reader, meant.name, meant.difference, expected.AS_MEANT if as_meant else expected.OTHER_ALPHA)
+        return
+    tally.hold(reader.name, meant.name, "alpha of another depth exact", as_meant)
+    if as_meant and seen.alpha.depth == meant.alpha.depth:
+        tally.count(reader.name, "and at its own depth")
+
+
 def _allowed(reader, meant):
     return HALVED if reader.halves_chroma and meant.coding == "exact" else NEAR[meant.coding]
 
 
 def _shows(colour, alpha, seen, allowed):
+    """Whether the colour is shown and, where both have one, the alpha."""
     if not pixels.same_size(colour, seen.colour):
         return False
     if pixels.distance(seen.colour.at_depth(colour.depth), colour)[0] > allowed:
         return False
-    return seen.alpha is None or seen.alpha.at_depth(alpha.depth).channels == alpha.channels
+    return None in (alpha, seen.alpha) or _same_alpha(alpha, seen)
+
+
+def _same_alpha(alpha, seen):
+    return seen.alpha.depth >= alpha.depth and pixels.alike(seen.alpha, alpha)
 
 
 def _pictures(tally, reader, meant, seen):
@@ -93,7 +116,7 @@ def _pictures(tally, reader, meant, seen):
     what = "colour exact" if most == 0 else "colour near"
     tally.hold(reader.name, name, what, mean <= allowed, f"is off by {mean:.4f} on average, and {allowed} is allowed")
     if seen.alpha is not None:
-        tally.hold(reader.name, name, "alpha exact", seen.alpha.at_depth(alpha.depth).channels == alpha.channels)
+        tally.hold(reader.name, name, "alpha exact", _same_alpha(alpha, seen))
     elif reader.gives_alpha:
         tally.fail(reader.name, name, "no alpha is shown")
     if reader.gives_parts:
@@ -134,9 +157,11 @@ def described(tally, info, file, meant):
         tally.hold(info.name, meant.name, "light level right", holds)
 
 
-def tagged(tally, tags, meant):
-    """Holds exiftool's tags to the panel."""
+def tagged(tally, tags, depths, meant):
+    """Holds exiftool's tags, and the depths that it reads, to the panel."""
     panel, name = meant.panel, meant.name
+    stated = [f"{panel.depth} {panel.depth} {panel.depth}", f"{panel.alpha_depth}"]
+    tally.hold("exiftool", name, "depths stated", depths[:2] == stated, f"are not {stated}, but {depths[:2]}")
     warnings = [w for w in _list(tags.get("Warning")) + _list(tags.get("Error")) if w not in expected.EXIFTOOL_WARNINGS]
     tally.hold("exiftool", name, "valid", not warnings, f"is not what it says: {'; '.join(warnings)}")
     if panel.icc is not None:

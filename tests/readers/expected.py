@@ -5,6 +5,7 @@ fails: then docs/DIFFERENCES.md wants a line more.
 """
 
 AS_MEANT, OTHER_OF_PAIR = "shown as meant", "shown as the other mirrored orientation of its pair"
+OTHER_ALPHA = "shown with another alpha"
 SHOWN, REFUSED = "shown", "refused"
 
 # Entry, then version of libheif, then what it does.
@@ -13,6 +14,8 @@ LIBHEIF = {
     "S2": {"1.15.1": {REFUSED}, "1.19.8": {REFUSED}, "1.23.6": {SHOWN}},  # the last with the tile black
     "S4": {"1.15.1": {SHOWN}, "1.19.8": {REFUSED}, "1.23.6": {REFUSED}},
     "S10": {"1.19.8": {REFUSED}, "1.23.6": {REFUSED}},
+    # Of a matrix of colour and of none: 1.19.8 refuses the second.
+    "S11": {"1.15.1": {REFUSED}, "1.19.8": {REFUSED, OTHER_ALPHA}, "1.23.6": {AS_MEANT}},
 }
 
 # Warnings of exiftool's -validate that are known; all others fail.

@@ -43,7 +43,7 @@ class HeifConvert:
     """heif-convert of libheif; later versions call it heif-dec."""
 
     name = "heif-convert"
-    gives_alpha = gives_parts = True
+    gives_alpha = gives_parts = makes_one_depth = True
     halves_chroma = False
 
     def __init__(self):
@@ -107,6 +107,7 @@ class Magick:
 
     name = "ImageMagick"
     gives_alpha = gives_parts = False
+    makes_one_depth = True
 
     def __init__(self):
         self.command = _first("magick", "convert-im6.q16")
@@ -173,6 +174,16 @@ class Exiftool:
         if not done.stdout:
             raise Refused(said.strip())
         return {tags["SourceFile"]: {k: self._value(v) for k, v in tags.items()} for tags in json.loads(done.stdout)}
+
+    def depths(self, files):
+        """For each file what its pixi state, in their order: the bits of each channel, with blanks between them."""
+        found = {}
+        for line in _run([self.command, "-s3", "-a", "-ImagePixelDepth", *files])[0].stdout.decode().splitlines():
+            if line.startswith("======== "):
+                stated = found.setdefault(line.removeprefix("======== "), [])
+            else:
+                stated.append(line)
+        return found
 
     @staticmethod
     def _value(value):
