@@ -1,6 +1,11 @@
 /*
  * Kahopiru: a HEIF file writer whose every byte is proved.
  *
+ * Since 0.3.0 kahopiru_panel has alpha_bit_depth, right behind bit_depth, and callers of before must set it: 0 says 8
+ * bits, so a panel of 10 or 12 bits that leaves it out states an alpha of 8. With panel.alpha_bit_depth =
+ * panel.bit_depth the file is the one of before. The struct is as long as it was: what was compiled with an older header
+ * still links, and is misread; compile it anew, and look through initialisers that do not name their fields.
+ *
  * The file holds a colour picture in tiles, an alpha picture in tiles and, where there is one, a gain map with a
  * tone map. A panel is its numbers, kahopiru_panel, and its bytes, kahopiru_parts:
  *
@@ -94,7 +99,7 @@
 /* The version of header and archive, which is the Rust crate's. While the first number is 0, the second rises where a
    file of any panel, a struct, a call or a refusal changes, and the third where nothing of that does. A change of a
    file's bytes is told first in docs/CHANGES.md. */
-#define KAHOPIRU_VERSION "0.2.0"
+#define KAHOPIRU_VERSION "0.3.0"
 
 #ifdef __cplusplus
 extern "C" {
@@ -182,7 +187,7 @@ typedef struct {
     uint32_t tile_w, tile_h; /* size of a tile, in pixels; any numbers, 0 too */
     uint32_t full_w, full_h; /* size of the whole picture; any numbers, 0 too */
     uint8_t bit_depth;       /* of the colour picture: 0, 1, 2 for 8, 10, 12 bits */
-    uint8_t alpha_bit_depth; /* of the alpha picture, by the same codes; 0, too, is said by it: 8 bits */
+    uint8_t alpha_bit_depth; /* of the alpha picture, by the same codes; it is not taken from bit_depth */
     uint8_t orientation;     /* 0 to 7 */
     uint8_t has_light;       /* 0 or 1: the light levels below are part of the panel */
     uint8_t has_exif;        /* 0 or 1; the Exif bytes are lent beside the panel */
@@ -263,7 +268,7 @@ kahopiru_tile_place kahopiru_tile(
    it if refused, keeps what it had. out overlaps no byte of the sheet.
 
    A sheet has at most 12,288 bytes; docs/SHEET.md says what is in it. Its file can be longer, since each tile costs 89
-   bytes beside its samples; 136,862 bytes of room are enough for every sheet. The program behind ./panel has room for
+   bytes beside its samples; 136,838 bytes of room are enough for every sheet. The program behind ./panel has room for
    32,768 bytes: 6 there says that the file would be longer, and the sheet's author can make fewer tiles or hand the
    sheet to this call. */
 kahopiru_answer kahopiru_sheet(const uint8_t *sheet, size_t sheet_len, uint8_t *out, size_t out_len);

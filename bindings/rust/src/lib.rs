@@ -251,7 +251,7 @@ pub fn tile<'a>(id: u16, color: Samples<'a>, alpha: Samples<'a>) -> Result<&'a [
 /// A sheet is a panel as one run of bytes, at most 12,288 of them. The bytes of `out` behind the file keep what they
 /// had; if the call refuses, all of `out` does.
 ///
-/// The longest file that a sheet can say has 136,862 bytes. The program behind `./panel` has room for 32,768: 6 there
+/// The longest file that a sheet can say has 136,838 bytes. The program behind `./panel` has room for 32,768: 6 there
 /// says that the file would be longer. The sheet's author can make fewer tiles, each of which costs 89 bytes beside its
 /// samples, or hand the sheet to this call, whose room is the caller's, or to [`sheet_to_vec`].
 ///
@@ -286,7 +286,7 @@ pub fn write_sheet(sheet: &[u8], out: &mut [u8]) -> Result<usize, Refusal> {
 /// # fn main() -> Result<(), Refusal> {
 /// let mut sheet = vec![0, 0, 0, 1, 0, 1]; // no optional part, 1 column, 1 row
 /// sheet.extend([0, 0, 0, 64].repeat(4)); // the size of a tile and of the whole picture
-/// sheet.push(0); // 8 bits
+/// sheet.extend([0, 0]); // 8 bits, and 8 bits of alpha
 /// sheet.extend([0, 0, 0, 2, 1, 1]); // the colour record, behind its length
 /// sheet.extend([0, 0, 0, 2, 1, 4]); // the alpha record
 /// sheet.extend([0, 0, 0, 1, 0, 0, 0, 1]); // the length of each sample

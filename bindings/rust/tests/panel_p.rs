@@ -144,12 +144,14 @@ fn an_alternate_colour_that_is_empty_or_has_no_tone_map_is_none() {
 #[test]
 fn each_depth_reaches_its_own_pixi() {
     for bit_depth in BitDepth::ALL {
-        // Unless it is stated, alpha has the colour's depth.
-        for (alpha_bit_depth, alpha) in [None].into_iter().chain(BitDepth::ALL.map(Some)).map(|d| (d, d.unwrap_or(bit_depth))) {
-            let file = to_vec(&Panel { bit_depth, alpha_bit_depth, ..p() }).unwrap();
-            let bits = bit_depth.bits();
+        let bits = bit_depth.bits();
+        for alpha in BitDepth::ALL {
+            let file = to_vec(&Panel { bit_depth, alpha_bit_depth: Some(alpha), ..p() }).unwrap();
             assert!(holds(&file, &[b'p', b'i', b'x', b'i', 0, 0, 0, 0, 3, bits, bits, bits]));
             assert!(holds(&file, &[b'p', b'i', b'x', b'i', 0, 0, 0, 0, 1, alpha.bits()]));
         }
+        // Unless it is stated, alpha has the colour's depth.
+        let unstated = to_vec(&Panel { bit_depth, ..p() }).unwrap();
+        assert_eq!(unstated, to_vec(&Panel { bit_depth, alpha_bit_depth: Some(bit_depth), ..p() }).unwrap());
     }
 }

@@ -87,8 +87,8 @@ fn the_longest_file_of_a_sheet_is_as_told() {
     }
     let (length, sheet) = longest;
     assert_eq!(sheet.len(), 12_288);
-    assert_eq!(length, 136_862);
-    assert!(include_str!("../src/lib.rs").contains("has 136,862 bytes"));
+    assert_eq!(length, 136_838);
+    assert!(include_str!("../src/lib.rs").contains("has 136,838 bytes"));
     assert_eq!(sheet_to_vec(&sheet).unwrap().len(), length);
     let mut room = vec![0; length];
     assert_eq!(write_sheet(&sheet, &mut room[1..]), Err(Refusal::OutputLength));

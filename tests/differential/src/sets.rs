@@ -55,7 +55,10 @@ pub fn depths(run: &mut Run) {
                 Case { gain: gain(&[1, 4], Some(vec![9])), color_hvcc: vec![1, 4], ..p() },
                 Case { color: profile.clone(), ..full() },
             ] {
-                run.panel(&format!("{bit_depth:?}, alpha {alpha_bit_depth:?}"), &Case { bit_depth, alpha_bit_depth, ..case });
+                run.panel(
+                    &format!("{bit_depth:?}, alpha {alpha_bit_depth:?}"),
+                    &Case { bit_depth, alpha_bit_depth, ..case },
+                );
             }
         }
     }
