@@ -3,8 +3,8 @@
  *
  * Since 0.3.0 kahopiru_panel has alpha_bit_depth, right behind bit_depth, and callers of before must set it: 0 says 8
  * bits, so a panel of 10 or 12 bits that leaves it out states an alpha of 8. With panel.alpha_bit_depth =
- * panel.bit_depth the file is the one of before. The struct is as long as it was: what was compiled with an older header
- * still links, and is misread; compile it anew, and look through initialisers that do not name their fields.
+ * panel.bit_depth the file is the one of before. The struct is as long as it was: what was compiled with an older
+ * header still links, and is misread; compile it anew, and look through initialisers that do not name their fields.
  *
  * The file holds a colour picture in tiles, an alpha picture in tiles and, where there is one, a gain map with a
  * tone map. A panel is its numbers, kahopiru_panel, and its bytes, kahopiru_parts:
@@ -39,6 +39,9 @@
  * A record is the body of an hvcC box (HEVCDecoderConfigurationRecord), without the box's own 8 bytes of size and type.
  * Its lengthSizeMinusOne must be 3, since the lengths in a sample have 4 bytes. All tiles of a picture share their
  * parameter sets: there is one record for all colour tiles and one for all alpha tiles.
+ *
+ * Colour and alpha each have a depth, bit_depth and alpha_bit_depth, which must be the one in the record. Today's
+ * readers have trouble with two that differ; docs/DIFFERENCES.md (S11) says which.
  *
  * Neither records nor samples are looked into, and wrong ones give a file that no reader shows. The one exception is
  * the profile in the records of colour and of the gain image; kahopiru_file_length says what for.

@@ -64,6 +64,8 @@
 //!   4, range extensions, makes the brand `heix` where it is `heic` else (colour), or adds `heix` to the compatible
 //!   brands (gain image). A record of fewer than two bytes counts as another profile. The alpha record's second byte is
 //!   not looked at.
+//! - Colour and alpha each have a depth, which must be the one in the record. Unless it is given, alpha has the
+//!   colour's. See [`Panel::alpha_bit_depth`].
 //! - Where a picture states no colour, neither by code points nor by a profile, unspecified is written, with full
 //!   range; a panel that states just that has the same file. See [`ColorMetadata`].
 //! - Mirrored orientations show mirrored the other way in today's readers. See [`Orientation`].

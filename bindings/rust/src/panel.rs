@@ -58,6 +58,8 @@ pub struct Panel<'a> {
     /// Bits of a sample of the alpha picture. `None`, the default, is the colour picture's depth: a panel has the same
     /// file with `None` and with `Some(bit_depth)`.
     ///
+    /// Today's readers have trouble with two depths that differ; the repository's docs/DIFFERENCES.md says which, S11.
+    ///
     /// ```
     /// use kahopiru::{to_vec, BitDepth, GridDims, Panel, Samples};
     ///
