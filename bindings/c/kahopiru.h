@@ -1,10 +1,11 @@
 /*
  * Kahopiru: a HEIF file writer whose every byte is proved.
  *
- * Since 0.3.0 kahopiru_panel has alpha_bit_depth, right behind bit_depth, and callers of before must set it: 0 says 8
- * bits, so a panel of 10 or 12 bits that leaves it out states an alpha of 8. With panel.alpha_bit_depth =
- * panel.bit_depth the file is the one of before. The struct is as long as it was: what was compiled with an older
- * header still links, and is misread; compile it anew, and look through initialisers that do not name their fields.
+ * Since 0.3.0 kahopiru_panel has alpha_bit_depth, right behind bit_depth, and code written for an older version must
+ * set it: 0 says 8 bits, so a panel of 10 or 12 bits that leaves it out states an alpha of 8. With
+ * panel.alpha_bit_depth = panel.bit_depth the file is the one of before. The struct is as long as it was: what was
+ * compiled with an older header still links, and is misread; compile it anew, and look through initialisers that do
+ * not name their fields. `tools/show --check FILE` finds a depth that is not the record's.
  *
  * The file holds a colour picture in tiles, an alpha picture in tiles and, where there is one, a gain map with a
  * tone map. A panel is its numbers, kahopiru_panel, and its bytes, kahopiru_parts:
@@ -100,8 +101,8 @@
 #include <stdint.h>
 
 /* The version of header and archive, which is the Rust crate's. While the first number is 0, the second rises where a
-   file of any panel, a struct, a call or a refusal changes, and the third where nothing of that does. A change of a
-   file's bytes is told first in docs/CHANGES.md. */
+   file of any panel, a struct, a call, a refusal or what a sheet says changes, and the third where nothing of that
+   does. A change of a file's bytes is told first in docs/CHANGES.md. */
 #define KAHOPIRU_VERSION "0.3.0"
 
 #ifdef __cplusplus
@@ -270,10 +271,12 @@ kahopiru_tile_place kahopiru_tile(
 /* Writes the file of the panel that a sheet says to the front of out and answers its length; the rest of out, or all of
    it if refused, keeps what it had. out overlaps no byte of the sheet.
 
-   A sheet has at most 12,288 bytes; docs/SHEET.md says what is in it. Its file can be longer, since each tile costs 89
-   bytes beside its samples; 136,838 bytes of room are enough for every sheet. The program behind ./panel has room for
-   32,768 bytes: 6 there says that the file would be longer, and the sheet's author can make fewer tiles or hand the
-   sheet to this call. */
+   A sheet has at most 12,288 bytes; docs/SHEET.md says what is in it. Since 0.3.0 that is an alpha depth, too: a sheet
+   of before is refused, as a rule with 11, until its byte 22, the depth, is repeated behind it.
+
+   The file can be longer than the sheet, since each tile costs 89 bytes beside its samples; 136,838 bytes of room are
+   enough for every sheet. The program behind ./panel has room for 32,768 bytes: 6 there says that the file would be
+   longer, and the sheet's author can make fewer tiles or hand the sheet to this call. */
 kahopiru_answer kahopiru_sheet(const uint8_t *sheet, size_t sheet_len, uint8_t *out, size_t out_len);
 
 /* A run of bytes that is lent. */

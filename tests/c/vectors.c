@@ -68,9 +68,8 @@ static void try_all(const char *name, bytes sheet, bytes file) {
     free(lengths);
 }
 
-/* The list's tiles and gain images are square, its alpha samples as long as the colour samples, and its depths of colour
-   and alpha are one. Here no two sizes are alike, no two lengths of samples and no two depths but the alpha picture's
-   and the gain image's; the file is the sheet call's. */
+/* The list's tiles and gain images are square, and its alpha samples as long as the colour samples. Here no two sizes,
+   no two lengths of samples and no two depths are alike; the file is the sheet call's. */
 static void try_uneven(void) {
     static const char digits[] =
         "01FF" "0002" "0001" "00000011" "00000012" "00000013" "00000014"      /* map, grid, sizes */
@@ -79,7 +78,7 @@ static void try_uneven(void) {
         "0001" "000D" "0006" "01" "00000001" "C1" "06" "03E8" "0190"          /* cicp, ICC, orientation, light level */
         "00000004" "4D4D002A"                                                 /* Exif */
         "00000004" "01010203" "00000005" "D1D2D3D4D5" "00000015" "00000016"   /* gain map: record, sample, sizes */
-        "02" "0009" "0010" "000A" "00" "00000006" "E1E2E3E4E5E6"              /* depth, cicp, XMP */
+        "00" "0009" "0010" "000A" "00" "00000006" "E1E2E3E4E5E6"              /* depth, cicp, XMP */
         "00000007" "F1F2F3F4F5F6F7"                                           /* tone map */
         "000C" "0012" "0000" "01" "00000008" "8182838485868788";              /* alternate colour: cicp, ICC */
     uint8_t sheet_room[sizeof digits / 2], file[ROOM];

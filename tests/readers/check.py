@@ -65,6 +65,8 @@ def check_readers(tally, files):
     """Each reader on each file; the versions of the readers."""
     convert, magick, info, exiftool = programs.HeifConvert(), programs.Magick(), programs.HeifInfo(), programs.Exiftool()
     decoders = [convert, library.Library()]
+    if decoders[0].libheif != decoders[1].libheif:
+        tally.fail("libheif", decoders[1].libheif, f"heif-convert is of another version, {decoders[0].libheif}")
     if magick.libheif is None:
         tally.reports.append("ImageMagick: it is built without HEIF, and is left out")
     else:
@@ -85,8 +87,9 @@ def check_readers(tally, files):
 def check_comparison(tally, writer, cache, room):
     """The comparison sees what it should: with two alpha tiles, or two colour tiles, exchanged a file does not pass."""
     convert, itself = programs.HeifConvert(), library.Library()
-    two_depths = {"depth": 12, "alpha_depth": 8, "difference": "S11"}
-    for which, readers, depths in (("alpha", (convert, itself), {}), ("color", (convert, itself), {}), ("alpha", (itself,), two_depths)):
+    two_depths = {"depth": 12, "alpha_depth": 8, "difference": "S11, identity"}
+    both = (convert, itself)
+    for which, readers, depths in (("alpha", both, {}), ("color", both, {}), ("alpha", (itself,), two_depths)):
         meant = panels.meant(panels.Case(f"exchanged-{which}", **depths), cache)
         samples = getattr(meant.panel, f"{which}_samples")
         samples[0], samples[1] = samples[1], samples[0]

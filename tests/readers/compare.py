@@ -43,10 +43,11 @@ class Tally:
 
 def decoded(tally, reader, file, meant, room):
     """Holds a decoding reader to the pictures."""
+    two_depths = meant.difference is not None and meant.difference.startswith("S11")
     try:
         seen = reader.read(file, room)
     except programs.Refused as refusal:
-        if meant.difference in ("S2", "S4") or meant.difference == "S11" and reader.makes_one_depth:
+        if meant.difference in ("S2", "S4") or two_depths and reader.makes_one_depth:
             tally.note(reader, meant.name, meant.difference, expected.REFUSED)
         else:
             tally.fail(reader.name, meant.name, f"refused: {refusal}")
@@ -56,7 +57,7 @@ def decoded(tally, reader, file, meant, room):
         tally.note(reader, meant.name, meant.difference, expected.SHOWN)
     elif meant.difference == "S1":
         _mirrored(tally, reader, meant, seen)
-    elif meant.difference == "S11":
+    elif two_depths:
         _of_two_depths(tally, reader, meant, seen)
     else:
         _pictures(tally, reader, meant, seen)
@@ -73,19 +74,25 @@ def _mirrored(tally, reader, meant, seen):
 
 
 def _of_two_depths(tally, reader, meant, seen):
-    """The colour is shown as meant, and the alpha as far as the bits of both reach. A reader that makes one depth of the
-    two may show another alpha, if its version is known for that."""
+    """The colour is shown as meant. The library gives the alpha exact; a reader that makes one depth of the two keeps as
+    many of its bits as the colour has, or shows another alpha, if its version is known for that."""
     if not _shows(meant.colour, None, seen, _allowed(reader, meant)):
         tally.fail(reader.name, meant.name, "the colour is not what was written")
-        return
-    alpha = meant.alpha.at_depth(min(meant.alpha.depth, meant.colour.depth))
-    as_meant = seen.alpha is not None and _same_alpha(alpha, seen)
-    if reader.makes_one_depth:
+    elif seen.alpha is None:
+        tally.note(reader, meant.name, meant.difference, expected.NO_ALPHA)
+    elif reader.makes_one_depth:
+        as_meant = _same_alpha(_kept(meant.alpha, meant.colour.depth), seen)
         tally.note(reader, meant.name, meant.difference, expected.AS_MEANT if as_meant else expected.OTHER_ALPHA)
-        return
-    tally.hold(reader.name, meant.name, "alpha of another depth exact", as_meant)
-    if as_meant and seen.alpha.depth == meant.alpha.depth:
-        tally.count(reader.name, "and at its own depth")
+    else:
+        exact = _same_alpha(_kept(meant.alpha, seen.alpha.depth), seen)
+        tally.hold(reader.name, meant.name, "alpha of another depth exact", exact)
+        own = seen.alpha.depth == meant.alpha.depth
+        tally.note(reader, meant.name, "S11, library", expected.OWN_DEPTH if own else expected.COLOUR_DEPTH)
+
+
+def _kept(alpha, depth):
+    """The alpha in so many bits, if it has more."""
+    return alpha.at_depth(min(alpha.depth, depth))
 
 
 def _allowed(reader, meant):
@@ -102,7 +109,7 @@ def _shows(colour, alpha, seen, allowed):
 
 
 def _same_alpha(alpha, seen):
-    return seen.alpha.depth >= alpha.depth and pixels.alike(seen.alpha, alpha)
+    return seen.alpha.depth >= alpha.depth and seen.alpha.at_depth(alpha.depth).channels == alpha.channels
 
 
 def _pictures(tally, reader, meant, seen):
@@ -160,8 +167,10 @@ def described(tally, info, file, meant):
 def tagged(tally, tags, depths, meant):
     """Holds exiftool's tags, and the depths that it reads, to the panel."""
     panel, name = meant.panel, meant.name
-    stated = [f"{panel.depth} {panel.depth} {panel.depth}", f"{panel.alpha_depth}"]
-    tally.hold("exiftool", name, "depths stated", depths[:2] == stated, f"are not {stated}, but {depths[:2]}")
+    stated = [[panel.depth] * 3, [panel.alpha_depth]]
+    if panel.gain is not None:
+        stated += [[panel.gain.depth]] + ([[max(panel.depth, 10)] * 3] if panel.gain.tone_map is not None else [])
+    tally.hold("exiftool", name, "depths stated", depths == stated, f"are not {stated}, but {depths}")
     warnings = [w for w in _list(tags.get("Warning")) + _list(tags.get("Error")) if w not in expected.EXIFTOOL_WARNINGS]
     tally.hold("exiftool", name, "valid", not warnings, f"is not what it says: {'; '.join(warnings)}")
     if panel.icc is not None:

@@ -5,7 +5,8 @@ fails: then docs/DIFFERENCES.md wants a line more.
 """
 
 AS_MEANT, OTHER_OF_PAIR = "shown as meant", "shown as the other mirrored orientation of its pair"
-OTHER_ALPHA = "shown with another alpha"
+OTHER_ALPHA, NO_ALPHA = "shown with another alpha", "shown without alpha"
+OWN_DEPTH, COLOUR_DEPTH = "alpha given at its own depth", "alpha given at the colour's depth"
 SHOWN, REFUSED = "shown", "refused"
 
 # Entry, then version of libheif, then what it does.
@@ -14,8 +15,10 @@ LIBHEIF = {
     "S2": {"1.15.1": {REFUSED}, "1.19.8": {REFUSED}, "1.23.6": {SHOWN}},  # the last with the tile black
     "S4": {"1.15.1": {SHOWN}, "1.19.8": {REFUSED}, "1.23.6": {REFUSED}},
     "S10": {"1.19.8": {REFUSED}, "1.23.6": {REFUSED}},
-    # Of a matrix of colour and of none: 1.19.8 refuses the second.
-    "S11": {"1.15.1": {REFUSED}, "1.19.8": {REFUSED, OTHER_ALPHA}, "1.23.6": {AS_MEANT}},
+    # By a reader that makes one depth of two, under an identity matrix and under another; and by the library itself.
+    "S11, identity": {"1.15.1": {REFUSED}, "1.19.8": {REFUSED}, "1.23.6": {AS_MEANT}},
+    "S11, matrix": {"1.15.1": {REFUSED}, "1.19.8": {OTHER_ALPHA}, "1.23.6": {AS_MEANT}},
+    "S11, library": {"1.15.1": {OWN_DEPTH}, "1.19.8": {OWN_DEPTH}, "1.23.6": {COLOUR_DEPTH}},
 }
 
 # Warnings of exiftool's -validate that are known; all others fail.

@@ -84,6 +84,7 @@ class Library:
         if not data:
             return None
         width = self.functions.heif_image_get_width(image, channel)
-        value = ctypes.c_uint8 if self.functions.heif_image_get_bits_per_pixel_range(image, channel) <= 8 else ctypes.c_uint16
-        rows = range(self.functions.heif_image_get_height(image, channel))
-        return [list((value * width).from_address(data + y * stride.value)) for y in rows]
+        height = self.functions.heif_image_get_height(image, channel)
+        depth = self.functions.heif_image_get_bits_per_pixel_range(image, channel)
+        row = (ctypes.c_uint8 if depth <= 8 else ctypes.c_uint16) * width
+        return [list(row.from_address(data + y * stride.value)) for y in range(height)]

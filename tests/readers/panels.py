@@ -54,9 +54,10 @@ def cases():
     plain = [Case(f"rgb-{depth}", depth=depth) for depth in (8, 10, 12)]
     plain += [Case(f"yuv420-{depth}", depth=depth, csp="i420", cicp=YCC) for depth in (8, 10, 12)]
     plain += [
-        Case("rgb-12-alpha-8", depth=12, alpha_depth=8, difference="S11"),
-        Case("yuv420-12-alpha-8", depth=12, alpha_depth=8, csp="i420", cicp=YCC, difference="S11"),
-        Case("rgb-8-alpha-12", alpha_depth=12, difference="S11"),
+        Case("rgb-12-alpha-8", depth=12, alpha_depth=8, difference="S11, identity"),
+        Case("yuv420-12-alpha-8", depth=12, alpha_depth=8, csp="i420", cicp=YCC, difference="S11, matrix"),
+        Case("rgb-8-alpha-12", alpha_depth=12, difference="S11, identity"),
+        Case("gain-toned-alpha-12", alpha_depth=12, gain_depth=8, toned=True, difference="S11, identity"),
         Case("yuv444-8", cicp=YCC),
         Case("yuv420-8-video-range", csp="i420", cicp=VIDEO),
         Case("yuv420-10-pq-light", depth=10, csp="i420", cicp=PQ, light=(1000, 400)),

@@ -32,12 +32,6 @@ class Picture:
         return Picture(self.width, self.height, depth, channels)
 
 
-def alike(one, other):
-    """Whether two pictures have the same values, as far as the depth of both reaches."""
-    depth = min(one.depth, other.depth)
-    return one.at_depth(depth).channels == other.at_depth(depth).channels
-
-
 def _flip_h(rows):
     return [row[::-1] for row in rows]
 

@@ -176,13 +176,13 @@ class Exiftool:
         return {tags["SourceFile"]: {k: self._value(v) for k, v in tags.items()} for tags in json.loads(done.stdout)}
 
     def depths(self, files):
-        """For each file what its pixi state, in their order: the bits of each channel, with blanks between them."""
-        found = {}
+        """For each file what its pixi state, in their order: of each the bits of its channels."""
+        found, file = {}, files[0]  # of one file alone exiftool does not say the name
         for line in _run([self.command, "-s3", "-a", "-ImagePixelDepth", *files])[0].stdout.decode().splitlines():
             if line.startswith("======== "):
-                stated = found.setdefault(line.removeprefix("======== "), [])
-            else:
-                stated.append(line)
+                file = line.removeprefix("======== ")
+            elif re.fullmatch(r"[0-9 ]+", line):  # the last line says how many files were read
+                found.setdefault(file, []).append([int(bits) for bits in line.split()])
         return found
 
     @staticmethod

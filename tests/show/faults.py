@@ -100,6 +100,7 @@ RECORDS = [
      ["item 3, grid: pixi says 3 channels of 8 bits, and the record of its tiles, property 1, 4:0:0, 8 bits"]),
     (property_at(6, box("hvcC", record(chroma=3))),
      ["item 6, grid: pixi says 1 channel of 8 bits, and the record of its tiles, property 6, 4:4:4, 8 bits"]),
+    (also(property_at(6, box("hvcC", record(chroma=0, luma=12, chroma_depth=12))), property_at(7, pixi(12))), []),
     (property_at(7, pixi(12)), ["item 6, grid: pixi says 1 channel of 12 bits, and the record of its tiles, property 6, 4:0:0, 8 bits"]),
     (item(1, properties=[-1, -2, 7]), ["item 1, hvc1: pixi says 1 channel of 8 bits, and the record, property 1, 4:2:0, 8 bits"]),
     (item(1, properties=[-2]), ["item 1, hvc1: no hvcC among its properties, and a decoder wants one"]),

@@ -253,6 +253,9 @@ pub fn tile<'a>(id: u16, color: Samples<'a>, alpha: Samples<'a>) -> Result<&'a [
 /// A sheet is a panel as one run of bytes, at most 12,288 of them. The bytes of `out` behind the file keep what they
 /// had; if the call refuses, all of `out` does.
 ///
+/// Since 0.3.0 a sheet says an alpha depth, too: one of before is refused, as a rule with [`Refusal::SheetEnds`], until
+/// its byte 22, the depth, is repeated behind it.
+///
 /// The longest file that a sheet can say has 136,838 bytes. The program behind `./panel` has room for 32,768: 6 there
 /// says that the file would be longer. The sheet's author can make fewer tiles, each of which costs 89 bytes beside its
 /// samples, or hand the sheet to this call, whose room is the caller's, or to [`sheet_to_vec`].

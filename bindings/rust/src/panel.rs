@@ -56,7 +56,7 @@ pub struct Panel<'a> {
     /// Bits of a sample of the colour picture.
     pub bit_depth: BitDepth,
     /// Bits of a sample of the alpha picture. `None`, the default, is the colour picture's depth: a panel has the same
-    /// file with `None` and with `Some(bit_depth)`.
+    /// file with `None` and with `Some(bit_depth)`, though `==` tells the two apart.
     ///
     /// Today's readers have trouble with two depths that differ; the repository's docs/DIFFERENCES.md says which, S11.
     ///

@@ -1,5 +1,6 @@
 //! Upstream's own files, kept in tests/vectors/upstream.txt: each line is a name, a panel sheet and the file that
-//! upstream writes for it, in hexadecimal. The binding must write the same bytes, for the panel and for the sheet.
+//! upstream writes for it, in hexadecimal; where alpha has a depth of its own, with that depth in its place. The binding
+//! must write the same bytes, for the panel and for the sheet.
 
 use kahopiru::{sheet_to_vec, to_vec, BitDepth, Cicp, ColorMetadata, ContentLightLevel, EncodedGainMap, GridDims};
 use kahopiru::{MatrixCoefficients, Metadata, Orientation, Panel, Primaries, Samples, TransferFunction};
@@ -117,5 +118,5 @@ fn the_binding_writes_what_upstream_wrote() {
         assert!(sheet_to_vec(&bytes(sheet)).as_ref() == Ok(&bytes(file)), "{name} differs as a sheet");
         count += 1;
     }
-    assert!(count >= 38, "only {count} files are in the list");
+    assert!(count >= 41, "only {count} files are in the list");
 }

@@ -1,1 +1,1 @@
-// The lettered trial panels, computed from the definitions, and the wrong programs that the promises rule out.
+// The trial panels, computed from the definitions, and the wrong programs that the promises rule out.

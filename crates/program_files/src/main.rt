@@ -1,6 +1,7 @@
 // Writes files to standard output, each with the bytes of the output behind it that it leaves as they are: panel P with each value of each
-// enum, and a panel with every part. Then it prints what the tile lookup gives for ids. The file `stdout` beside src/ has what the Rust
-// writes for values of the same names, and which part of its files each tile is.
+// enum, its alpha at each depth, and a panel with every part. Then it prints what the tile lookup gives for ids. The file `stdout` beside
+// src/ has what the Rust writes for values of the same names, with the alpha depth put in where it is another than the colour's, and which
+// part of its files each tile is.
 
 mod lookups;
 mod names;

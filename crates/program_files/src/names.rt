@@ -104,7 +104,7 @@ fn colored(primaries: Primaries, transfer: TransferFunction, matrix: MatrixCoeff
 
 // ---- each value, by its name
 
-// Each two depths, the colour's first.
+// Every pair of depths, the colour's first.
 fn depths() {
     deep(BitDepth::Eight, BitDepth::Eight);
     deep(BitDepth::Eight, BitDepth::Ten);

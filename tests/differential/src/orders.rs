@@ -12,8 +12,8 @@ use crate::sheets::{self, ROOM};
 use crate::tiles::{self, MOST_TILES};
 use kahopiru::{sys, Cicp, Refusal, Samples};
 
-/// The checks of each call, in the order in which they are made; that 13 comes before them, codes.rs tries. Where a sheet is spoiled, the reading meets the alpha
-/// depth (13) before the end (11).
+/// The checks of each call, in the order in which they are made; that 13 comes before them, codes.rs tries. Where a sheet is spoiled, the reading meets the depths
+/// (13) before the end (11).
 const ORDERS: [(&str, &[u32]); 4] = [
     ("write", &[1, 2, 3, 4, 5, 6]),
     ("file_length", &[1, 2, 3, 4, 5]),
@@ -108,8 +108,13 @@ fn lookup_call(pair: Pair) -> Call {
 
 // ---- sheets
 
-/// A sheet for which these checks hold. Exif comes last, so that what is cut off is missing there.
-fn spoiled_sheet(pair: Pair) -> Vec<u8> {
+/// The places of a sheet's two depths.
+const DEPTH: usize = 22;
+const ALPHA_DEPTH: usize = 23;
+
+/// A sheet for which these checks hold, 13 by the code at a place. Exif comes last, so that what is cut off is missing
+/// there.
+fn spoiled_sheet(pair: Pair, code: usize) -> Vec<u8> {
     let has = |number| pair.contains(&number);
     let base = if has(1) { p().with_empty_grid(0, 1) } else { p() };
     let exif = Some(vec![0; if has(15) { 12_288 } else { 8 }]);
@@ -118,7 +123,7 @@ fn spoiled_sheet(pair: Pair) -> Vec<u8> {
         bytes[0] |= 1 << 1; // bit 9 of the map
     }
     if has(13) {
-        bytes[23] = 3; // the alpha depth
+        bytes[code] = 3;
     }
     if has(11) {
         bytes.pop();
@@ -153,10 +158,12 @@ fn calls() -> Vec<Call> {
     let zeros = Zeros::new(1 << 32);
     let call = |(name, pair)| match name {
         "tile" => lookup_call(pair),
-        "sheet" => sheet_call(pair, &spoiled_sheet(pair)),
+        "sheet" => sheet_call(pair, &spoiled_sheet(pair, DEPTH)),
         _ => panel_call(name, pair, zeros.slice()),
     };
     let mut calls: Vec<Call> = pairs().into_iter().map(call).collect();
+    let codes = pairs().into_iter().filter(|(name, pair)| *name == "sheet" && pair.contains(&13));
+    calls.extend(codes.map(|(_, pair)| sheet_call(pair, &spoiled_sheet(pair, ALPHA_DEPTH))));
     calls.push(sheet_call([13, 11], &half_a_colour()));
     calls
 }

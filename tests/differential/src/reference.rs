@@ -29,9 +29,16 @@ pub fn put_alpha_depth(file: &mut [u8], at: usize, [from, to]: [u8; 2]) -> Resul
     Ok(())
 }
 
-/// Where the alpha depth lies in a file: behind what the boxes before ipco hold, the first six properties and 13 bytes
-/// of its own pixi. The bare file has it at 361 with 78 for each tile (two entries of iloc and of iinf, two ids of iref);
-/// the shares of what is more are those parts of the length's that come before it.
+/// What lies before the alpha depth in a file without tiles, whose records are empty: ftyp, the head of meta, hdlr and
+/// pitm; iloc, iinf and iref with what they have of the two grids; the heads of iprp and ipco; six properties; and of the
+/// alpha picture's pixi all but its last byte.
+const BARE: i128 =
+    28 + 12 + 33 + 14 + (16 + 2 * 16) + (14 + 2 * 21) + (12 + 2 * 12 + 14) + (8 + 8) + BARE_PROPERTIES + 13;
+
+/// hvcC, ispe of a tile and of the whole, an nclx colr, pixi of three channels, and hvcC.
+const BARE_PROPERTIES: i128 = 8 + 20 + 20 + 19 + 16 + 8;
+
+/// Where the alpha depth lies in a file.
 pub fn alpha_depth_at(panel: &Panel<'_>) -> usize {
     let gain = panel.gain_map;
     let profile = match (panel.color_meta.cicp, panel.color_meta.icc) {
@@ -39,8 +46,9 @@ pub fn alpha_depth_at(panel: &Panel<'_>) -> usize {
         (None, Some(icc)) => 12 + icc.len() as i128 - 19,
         _ => 0,
     };
-    let at = 361
-        + 78 * tiles(panel)
+    let at = BARE
+        // Two entries of iloc and of iinf, two ids of iref.
+        + 2 * (16 + 21 + 2) * tiles(panel)
         + (panel.color_hvcc.len() + panel.alpha_hvcc.len()) as i128
         + profile
         // An entry of iloc (16) and of iinf (21), and a reference to the grid (14).

@@ -13,10 +13,11 @@ type Trial = (&'static str, Result<(), String>);
 /// Depths at a wrong place, or not the panel's.
 fn alpha_depths() -> Vec<Trial> {
     let case = Case { bit_depth: BitDepth::Twelve, alpha_bit_depth: BitDepth::Eight, ..full() };
-    let (file, of_one_depth) = (reference::file(&case).unwrap_or_default(), upstream::write(&case).unwrap_or_default());
+    let file = reference::file(&case).expect("upstream writes it");
+    let of_one_depth = upstream::write(&case).expect("upstream writes it");
     let at = reference::alpha_depth_at(&case.panel());
     let exchanged = Case { bit_depth: BitDepth::Eight, alpha_bit_depth: BitDepth::Twelve, ..case };
-    let written = kahopiru::to_vec(&exchanged.panel()).unwrap_or_default();
+    let written = kahopiru::to_vec(&exchanged.panel()).expect("the panel is accepted");
     vec![
         ("the colour's depth for alpha", same_file(&file, &of_one_depth)),
         ("two depths exchanged", same_file(&file, &written)),

@@ -39,7 +39,7 @@ pub fn combinations(run: &mut Run) {
     assert_eq!(count, 384);
 }
 
-/// Each two depths of colour and alpha, in panels that have different things in front of the alpha depth.
+/// Every pair of depths, of colour and alpha, in panels that have different things in front of the alpha depth.
 pub fn depths(run: &mut Run) {
     let profile = Color { cicp: None, icc: Some(vec![7; 5]) };
     let gain = |hvcc: &[u8], tmap| Some(Gain { hvcc: hvcc.to_vec(), ..small_gain(tmap) });

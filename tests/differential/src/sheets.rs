@@ -1,4 +1,5 @@
-//! Panel sheets: the archive's call and the program, held to upstream's writer behind a reader of our own (reader.rs).
+//! Panel sheets: the archive's call and the program, held to upstream's writer (reference.rs) behind a reader of our own
+//! (reader.rs).
 
 use crate::compare::{judge, Room};
 use crate::panels::{full, p, Case};

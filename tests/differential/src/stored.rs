@@ -65,8 +65,9 @@ fn every_depth() -> Result<Vec<Vec<u8>>, String> {
     for (bit_depth, bits) in every!(BitDepth: Eight Ten Twelve).into_iter().zip([8, 10, 12]) {
         let file = oracle::write(&p_with(Told { bit_depth, ..p() }))?;
         for alpha_bits in [8, 10, 12] {
-            files.push(file.clone());
-            reference::put_alpha_depth(files.last_mut().expect("one was pushed"), at, [bits, alpha_bits])?;
+            let mut masked = file.clone();
+            reference::put_alpha_depth(&mut masked, at, [bits, alpha_bits])?;
+            files.push(masked);
         }
     }
     Ok(files)
