@@ -3,7 +3,7 @@
  *
  * Since 0.3.0 kahopiru_panel has alpha_bit_depth, right behind bit_depth, and code written for an older version must
  * set it: 0 says 8 bits, so a panel of 10 or 12 bits that leaves it out states an alpha of 8. With
- * panel.alpha_bit_depth = panel.bit_depth the file is the one of before. The struct is as long as it was: what was
+ * panel.alpha_bit_depth = panel.bit_depth the file is what it was. The struct is as long as it was: what was
  * compiled with an older header still links, and is misread; compile it anew, and look through initialisers that do
  * not name their fields. `tools/show --check FILE` finds a depth that is not the record's.
  *
@@ -271,8 +271,8 @@ kahopiru_tile_place kahopiru_tile(
 /* Writes the file of the panel that a sheet says to the front of out and answers its length; the rest of out, or all of
    it if refused, keeps what it had. out overlaps no byte of the sheet.
 
-   A sheet has at most 12,288 bytes; docs/SHEET.md says what is in it. Since 0.3.0 that is an alpha depth, too: a sheet
-   of before is refused, as a rule with 11, until its byte 22, the depth, is repeated behind it.
+   A sheet has at most 12,288 bytes; docs/SHEET.md says what is in it. Since 0.3.0 that is an alpha depth, too: an
+   older sheet is refused, as a rule with 11, until its byte 22, the depth, is repeated behind it.
 
    The file can be longer than the sheet, since each tile costs 89 bytes beside its samples; 136,838 bytes of room are
    enough for every sheet. The program behind ./panel has room for 32,768 bytes: 6 there says that the file would be

@@ -40,7 +40,7 @@ def _declared(library):
     return library
 
 
-def _look(error):
+def _refuse_on(error):
     if error.code != 0:
         raise programs.Refused((error.message or b"").decode("utf-8", "replace"))
 
@@ -63,10 +63,13 @@ class Library:
         """Decodes the primary picture."""
         context, handle, image = self.functions.heif_context_alloc(), ctypes.c_void_p(), ctypes.c_void_p()
         try:
-            _look(self.functions.heif_context_read_from_file(context, str(file).encode(), None))
-            _look(self.functions.heif_context_get_primary_image_handle(context, ctypes.byref(handle)))
-            _look(self.functions.heif_decode_image(handle, ctypes.byref(image), RGB, PLANES_444, None))
-            return programs.Seen(self._picture(image, COLOUR), self._picture(image, (ALPHA,)))
+            _refuse_on(self.functions.heif_context_read_from_file(context, str(file).encode(), None))
+            _refuse_on(self.functions.heif_context_get_primary_image_handle(context, ctypes.byref(handle)))
+            _refuse_on(self.functions.heif_decode_image(handle, ctypes.byref(image), RGB, PLANES_444, None))
+            colour, alpha = self._picture(image, COLOUR), self._picture(image, (ALPHA,))
+            if colour is None:
+                raise programs.Refused("it gives no planes of colour")
+            return programs.Seen(colour, alpha)
         finally:
             self.functions.heif_image_release(image)
             self.functions.heif_image_handle_release(handle)

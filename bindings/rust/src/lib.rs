@@ -253,7 +253,7 @@ pub fn tile<'a>(id: u16, color: Samples<'a>, alpha: Samples<'a>) -> Result<&'a [
 /// A sheet is a panel as one run of bytes, at most 12,288 of them. The bytes of `out` behind the file keep what they
 /// had; if the call refuses, all of `out` does.
 ///
-/// Since 0.3.0 a sheet says an alpha depth, too: one of before is refused, as a rule with [`Refusal::SheetEnds`], until
+/// Since 0.3.0 a sheet says an alpha depth, too: an older one is refused, as a rule with [`Refusal::SheetEnds`], until
 /// its byte 22, the depth, is repeated behind it.
 ///
 /// The longest file that a sheet can say has 136,838 bytes. The program behind `./panel` has room for 32,768: 6 there

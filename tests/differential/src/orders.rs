@@ -12,8 +12,8 @@ use crate::sheets::{self, ROOM};
 use crate::tiles::{self, MOST_TILES};
 use kahopiru::{sys, Cicp, Refusal, Samples};
 
-/// The checks of each call, in the order in which they are made; that 13 comes before them, codes.rs tries. Where a sheet is spoiled, the reading meets the depths
-/// (13) before the end (11).
+/// The checks of each call, in the order in which they are made; that 13 comes before them, codes.rs tries. Where a
+/// sheet is spoiled, the reading meets the depths (13) before the end (11).
 const ORDERS: [(&str, &[u32]); 4] = [
     ("write", &[1, 2, 3, 4, 5, 6]),
     ("file_length", &[1, 2, 3, 4, 5]),
