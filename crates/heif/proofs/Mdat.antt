@@ -1,17 +1,17 @@
--- The samples are made by their lengths and bytes, and make them; the payloads in mdat tell the Exif; and how many bytes they have.
+-- The samples are made by their lengths and bytes, and make them; the payloads in mdat tell the Exif, and where its TIFF header is; and how many bytes they have.
 use mathlib.Core.Path.{_≡_, refl, sym, ap, ap₂, _∙_}
-use mathlib.Core.Bool.{cond}
+use mathlib.Core.Bool.{Bool, true, false, cond}
 use mathlib.Core.Option.{Option, none, some}
 use mathlib.Core.List.{List, [], _∷_, _++_, map, map-append, flatten}
-use Prim.Native.Nat.{ℕ, suc, _+_, _≤_}
+use Prim.Native.Nat.{ℕ, suc, _+_, _≤_, _<_}
 use native.Mathlib.Omega.{arith}
-use lib.ListN.{length, take, length-drop, take-append-drop}
+use lib.ListN.{length, take, drop, length-drop, take-append-drop}
 use lib.Seq.{length-take-le}
-use Rattle.octets.specs.Numbers.{_‖_, be, total}
-use Rattle.octets.proofs.Lists.{cancel, length-flatten, total-append}
+use Rattle.octets.specs.Numbers.{_‖_, be, value, total, _begins-with_}
+use Rattle.octets.proofs.Lists.{cancel, begins-front, begins-short, length-flatten, total-append}
 use Rattle.panel.specs.Panel.{Tiles, Panel, Gain}
 use Rattle.panel.specs.Parts.{has, listed, tone-of, long}
-use Rattle.heif.specs.Mdat.{samples, exif-payload, mdat, gain-payloads, exif-size, gain-data-size, mdat-size}
+use Rattle.heif.specs.Mdat.{samples, exif-marker, tiff-header-offset, exif-data-block, exif-payload, mdat, gain-payloads, exif-size, gain-data-size, mdat-size}
 use Rattle.heif.specs.Items.{Even}
 
 -- ---- samples: their lengths and their bytes make them, and are made by them
@@ -50,13 +50,46 @@ cut-inj t u ht hu e =
 
 -- ---- the Exif
 
+-- the payload tells the Exif: equal bytes behind the four
 pub exif-inj : (s t : Option (List ℕ)) {x y : List (List ℕ)} → length x ≡ length y → exif-payload s ‖ x ≡ exif-payload t ‖ y → (s ≡ t) × (x ≡ y)
 exif-inj none none n e = (refl, e)
 exif-inj none (some v) n e = absurd (omega (arith, ap length e))
 exif-inj (some u) none n e = absurd (omega (arith, ap length e))
 exif-inj (some u) (some v) n e =
-    let w : be 4 0 ‖ u ≡ be 4 0 ‖ v = cc in
-    (ap some (cancel (be 4 0) (be 4 0) refl w .1), cc)
+    let w : exif-data-block u ≡ exif-data-block v = cc in
+    (ap some (cancel (be 4 (tiff-header-offset u)) (be 4 (tiff-header-offset v)) refl w .1), cc)
+
+-- 45 78 69 66 00 00
+abbrev six : List ℕ
+six = 0x45 ∷ 0x78 ∷ 0x69 ∷ 0x66 ∷ 0x00 ∷ 0x00 ∷ []
+
+-- the offset is 6 for Exif that begins with these, and 0 for all other, also for shorter
+pub offset-marked : (tiff : List ℕ) → tiff-header-offset (six ‖ tiff) ≡ 6
+unfolding tiff-header-offset
+offset-marked tiff = refl
+
+pub offset-unmarked : (exif : List ℕ) → (take 6 exif ≡ six → ⊥) → tiff-header-offset exif ≡ 0
+unfolding tiff-header-offset
+offset-unmarked exif h = go (exif begins-with exif-marker) refl
+  where
+    go : (b : Bool) → exif begins-with exif-marker ≡ b → cond {A = ℕ} b 6 0 ≡ 0
+    go true e = absurd (h (ap (take 6) (begins-front exif exif-marker e)))
+    go false e = refl
+
+pub offset-short : (exif : List ℕ) → length exif < 6 → tiff-header-offset exif ≡ 0
+unfolding tiff-header-offset
+offset-short exif h = rw (begins-short exif exif-marker h)
+
+-- what a reader finds in the payload: it goes on behind the four bytes by as many as they say
+abbrev found : List ℕ → List ℕ
+found block = drop (4 + value (take 4 block)) block
+
+-- that is the TIFF header, with the marker before it and without
+pub found-marked : (tiff : List ℕ) → found (exif-data-block (six ‖ tiff)) ≡ tiff
+found-marked tiff = rw (offset-marked tiff)
+
+pub found-unmarked : (tiff : List ℕ) → (take 6 tiff ≡ six → ⊥) → found (exif-data-block tiff) ≡ tiff
+found-unmarked tiff h = rw (offset-unmarked tiff h)
 
 -- ---- how many payloads, and how many bytes
 

@@ -4,7 +4,7 @@ use mathlib.Core.Option.{Option, none, some}
 use mathlib.Core.List.{List, [], _∷_, flatten}
 use Prim.Native.Nat.{ℕ, _+_}
 use lib.ListN.{take, drop, length}
-use Rattle.octets.specs.Numbers.{_‖_, be}
+use Rattle.octets.specs.Numbers.{_‖_, be, text, _begins-with_}
 use Rattle.octets.specs.Boxes.{Box, box}
 use Rattle.panel.specs.Panel.{Gain, Panel}
 use Rattle.panel.specs.Parts.{has, long, listed}
@@ -16,10 +16,21 @@ abbrev pub samples : List ℕ → List ℕ → List (List ℕ)
 samples [] bytes = []
 samples (n ∷ l) bytes = take n bytes ∷ samples l (drop n bytes)
 
--- the offset of the TIFF header, which is 0, then the Exif bytes
+-- the marker that Exif has in a JPEG file, and may have kept: "Exif" and two zero bytes
+abbrev pub exif-marker : List ℕ
+exif-marker = text "Exif" ‖ 0x00 ∷ 0x00 ∷ []
+
+-- how many of the Exif bytes come before its TIFF header: the six of the marker, or none
+unfoldable pub tiff-header-offset : List ℕ → ℕ
+tiff-header-offset exif = cond (exif begins-with exif-marker) 6 0
+
+-- the payload of an Exif item: the offset of the TIFF header in the Exif bytes, then these as they are given
+abbrev pub exif-data-block : List ℕ → List ℕ
+exif-data-block exif = be 4 (tiff-header-offset exif) ‖ exif
+
 abbrev pub exif-payload : Option (List ℕ) → List (List ℕ)
 exif-payload none = []
-exif-payload (some e) = (be 4 0 ‖ e) ∷ []
+exif-payload (some exif) = exif-data-block exif ∷ []
 
 abbrev pub gain-payloads : Option Gain → List (List ℕ)
 gain-payloads none = []

@@ -47,8 +47,8 @@ P-wide w = column 1 w 0xAA unstated plain none
 abbrev pub P-transpose : Panel
 P-transpose = column 1 64 0xAA unstated (said Transpose none none) none
 
-abbrev pub P-exif : Panel
-P-exif = column 1 64 0xAA unstated (said Normal none (some [])) none
+abbrev pub P-exif : List ℕ → Panel
+P-exif exif = column 1 64 0xAA unstated (said Normal none (some exif)) none
 
 abbrev pub P-light : Panel
 P-light = column 1 64 0xAA unstated (said Normal (some (record { «max_content_light_level» = 1000; «max_pic_average_light_level» = 400 })) none) none

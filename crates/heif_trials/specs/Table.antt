@@ -1,4 +1,4 @@
--- The lettered trials, (a) to (k), and those of the alpha depth, in one table.
+-- The lettered trials, (a) to (k), and those of the Exif's marker and of the alpha depth, in one table.
 use mathlib.Core.List.{List, [], _∷_}
 use Prim.Native.Nat.{ℕ}
 use Rattle.octets.specs.Numbers.{_‖_, be, text}
@@ -72,7 +72,24 @@ g = fits Panels.P-transpose 578 (property 9 "irot" (0x03 ∷ []) ∷ property 10
 
 -- (h) P, Exif empty
 abbrev pub h : Trial
-h = fits Panels.P-exif 611 (item 5 "Exif" ∷ payload 5 (0x00 ∷ 0x00 ∷ 0x00 ∷ 0x00 ∷ []) ∷ [])
+h = fits (Panels.P-exif []) 611 (item 5 "Exif" ∷ payload 5 (0x00 ∷ 0x00 ∷ 0x00 ∷ 0x00 ∷ []) ∷ [])
+
+-- (h) with the marker before a TIFF header, which is six bytes away
+abbrev pub h-marked : Trial
+h-marked =
+    fits (Panels.P-exif (0x45 ∷ 0x78 ∷ 0x69 ∷ 0x66 ∷ 0x00 ∷ 0x00 ∷ 0x4D ∷ 0x4D ∷ 0x00 ∷ 0x2A ∷ [])) 621
+    (payload 5 (0x00 ∷ 0x00 ∷ 0x00 ∷ 0x06 ∷ 0x45 ∷ 0x78 ∷ 0x69 ∷ 0x66 ∷ 0x00 ∷ 0x00 ∷ 0x4D ∷ 0x4D ∷ 0x00 ∷ 0x2A ∷ []) ∷ [])
+
+-- with five bytes of the marker, and with a byte before it
+abbrev pub h-cut : Trial
+h-cut =
+    fits (Panels.P-exif (0x45 ∷ 0x78 ∷ 0x69 ∷ 0x66 ∷ 0x00 ∷ [])) 616
+    (payload 5 (0x00 ∷ 0x00 ∷ 0x00 ∷ 0x00 ∷ 0x45 ∷ 0x78 ∷ 0x69 ∷ 0x66 ∷ 0x00 ∷ []) ∷ [])
+
+abbrev pub h-late : Trial
+h-late =
+    fits (Panels.P-exif (0x00 ∷ 0x45 ∷ 0x78 ∷ 0x69 ∷ 0x66 ∷ 0x00 ∷ 0x00 ∷ [])) 618
+    (payload 5 (0x00 ∷ 0x00 ∷ 0x00 ∷ 0x00 ∷ 0x00 ∷ 0x45 ∷ 0x78 ∷ 0x69 ∷ 0x66 ∷ 0x00 ∷ 0x00 ∷ []) ∷ [])
 
 -- (i) P, light 1000 and 400
 abbrev pub i : Trial
@@ -111,4 +128,4 @@ k-alpha-twelve =
     ∷ [])
 
 abbrev pub table : List Trial
-table = a ∷ b ∷ c ∷ d ∷ e ∷ f ∷ g ∷ h ∷ i ∷ j ∷ k ∷ k-alpha-eight ∷ k-alpha-twelve ∷ []
+table = a ∷ b ∷ c ∷ d ∷ e ∷ f ∷ g ∷ h ∷ h-marked ∷ h-cut ∷ h-late ∷ i ∷ j ∷ k ∷ k-alpha-eight ∷ k-alpha-twelve ∷ []

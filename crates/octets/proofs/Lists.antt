@@ -1,14 +1,17 @@
--- Laws of lists that the library does not have: cancelling fronts of equal length, a choice of two, sums, and lists printed element by element.
+-- Laws of lists that the library does not have: cancelling fronts of equal length, a choice of two, sums, what bytes begin with, and lists printed element by element.
 use mathlib.Core.Path.{_≡_, refl, sym, ap, _∙_}
-use mathlib.Core.Bool.{Bool, true, false, cond}
+use mathlib.Core.Bool.{Bool, true, false, cond, _&&_}
 use mathlib.Core.List.{List, [], _∷_, _++_, map, flatten, flatMap, append-assoc, append-nil}
 use Prim.Native.Nat.{ℕ, _+_, _*_, _≤_, _<_}
 use native.Mathlib.Nat.{zero-mul, suc-mul}
 use native.Mathlib.Numerals.{add-one}
 use native.Mathlib.Omega.{arith}
+use lib.Dec.{eqb}
 use lib.ListN.{length, length-append, take, drop, getD, take-append-drop}
 use lib.Seq.{take-suc, drop-cons}
-use Rattle.octets.specs.Numbers.{total}
+use borrow.Author.Tests.{eqb-true, eq-eqb, ne-eqb}
+use Rattle.octets.specs.Numbers.{total, _begins-with_}
+use Rattle.octets.proofs.Tests.{and-both, and-fails}
 
 -- ---- fronts of equal length
 
@@ -53,6 +56,37 @@ drop-step l i h = rw (add-one, drop-cons l i 0)
 
 pub total-left : (l : List ℕ) (i : ℕ) → i < length l → total (drop i l) ≡ getD l i 0 + total (drop (i + 1) l)
 total-left l i h = ap total (drop-step l i h)
+
+-- ---- what bytes begin with
+
+-- a front and whatever stands behind it
+pub begins-append : (front l : List ℕ) → front ++ l begins-with front ≡ true
+begins-append [] l = refl
+begins-append (m ∷ front) l = rw (eq-eqb m m refl) (begins-append front l)
+
+-- and nothing else
+pub begins-front : (l front : List ℕ) → l begins-with front ≡ true → l ≡ front ++ drop (length front) l
+begins-front l [] e = refl
+begins-front [] (m ∷ front) e = absurd (let z : _≡_ {A = ℕ} 0 1 = cc in omega arith)
+begins-front (b ∷ l) (m ∷ front) e =
+    let both = and-both (eqb b m) (l begins-with front) e in
+    cc (eqb-true b m (both .0), begins-front l front (both .1))
+
+pub begins-short : (l front : List ℕ) → length l < length front → l begins-with front ≡ false
+begins-short l [] h = absurd (omega arith)
+begins-short [] (m ∷ front) h = refl
+begins-short (b ∷ l) (m ∷ front) h = and-fails (eqb b m) (l begins-with front) (begins-short l front (omega arith))
+
+-- from an index on, within both: the byte there decides, or the bytes behind it do
+module _ (l front : List ℕ) (i : ℕ) (h : i < length l) (k : i < length front) where
+  begins-step : drop i l begins-with drop i front ≡ (eqb (getD l i 0) (getD front i 0) && drop (i + 1) l begins-with drop (i + 1) front)
+  begins-step = rw (drop-step l i h, drop-step front i k)
+
+  pub begins-differs : (getD l i 0 ≡ getD front i 0 → ⊥) → drop i l begins-with drop i front ≡ false
+  begins-differs d = begins-step ∙ rw (ne-eqb (getD l i 0) (getD front i 0) d)
+
+  pub begins-next : getD l i 0 ≡ getD front i 0 → drop i l begins-with drop i front ≡ drop (i + 1) l begins-with drop (i + 1) front
+  begins-next e = begins-step ∙ rw (eq-eqb (getD l i 0) (getD front i 0) e)
 
 -- ---- lists of lists
 

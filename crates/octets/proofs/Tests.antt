@@ -39,3 +39,8 @@ or-absorbs false false h = refl
 pub and-both : (a b : Bool) → (a && b) ≡ true → (a ≡ true) × (b ≡ true)
 and-both true b e = (refl, e)
 and-both false b e = absurd (let z : _≡_ {A = ℕ} 0 1 = cc in omega arith)
+
+-- the second does not hold
+pub and-fails : (a b : Bool) → b ≡ false → (a && b) ≡ false
+and-fails true b e = e
+and-fails false b e = refl

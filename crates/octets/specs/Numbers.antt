@@ -1,8 +1,10 @@
 -- Numbers and texts as bytes.
+use mathlib.Core.Bool.{Bool, true, false, _&&_}
 use mathlib.Core.List.{List, [], _∷_, _++_}
 use Prim.Native.Nat.{ℕ, zero, suc, _+_, _*_, _/_, _%_, _^_}
 use Prim.Native.Char.{code}
 use Prim.Native.String.{String, [] as ε, _∷_ as _◂_}
+use lib.Dec.{eqb}
 use lib.ListN.{length}
 
 infixr 60 _‖_
@@ -29,3 +31,10 @@ text (c ◂ s) = code c ∷ text s
 abbrev pub total : List ℕ → ℕ
 total [] = 0
 total (n ∷ l) = n + total l
+
+infix 50 _begins-with_
+-- whether bytes begin with others
+abbrev pub _begins-with_ : List ℕ → List ℕ → Bool
+l begins-with [] = true
+[] begins-with (m ∷ front) = false
+(b ∷ l) begins-with (m ∷ front) = eqb b m && l begins-with front

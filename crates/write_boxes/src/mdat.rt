@@ -8,24 +8,32 @@ ghost use Rattle.octets.specs.Boxes.{box};
 ghost use Rattle.octets.specs.Stores.{Wrote, Boxed};
 ghost use Rattle.panel.specs.Of.{part};
 ghost use Rattle.panel.specs.Parts.{listed, long};
-ghost use Rattle.heif.specs.Mdat.{exif-payload, gain-payloads, exif-size, gain-data-size};
+ghost use Rattle.heif.specs.Mdat.{exif-data-block, exif-payload, gain-payloads, exif-size, gain-data-size};
 ghost use Rattle.heif.specs.Lent.{with-payloads};
 use octets::put;
 use octets::w32;
 use octets::write_box;
 use panel::gain_map::MaybeGainMap;
 use panel::part::Part;
+use plan_items::exif::tiff_header_offset;
 
-// The Exif payload, where it is present: the offset of the TIFF header, which is 0, then the Exif bytes.
+// The payload of an Exif item: the offset of the TIFF header in the Exif bytes, then these.
+fn write_exif_data_block(out: &mut [u8], at: usize, exif: &[u8]) -> usize
+    requires { ⌜ at + (4 + length (now exif)) ≤ length (now out) ⌝ }
+    ensures { λ r. ⌜ Wrote (now (out .entry)) at (4 + length (now (exif .entry))) (exif-data-block (now (exif .entry))) (now (out .exit)) r ⌝ }
+{
+    let offset = tiff_header_offset(exif);
+    let a = w32(out, at, offset);
+    put(out, a, exif)
+}
+
+// The Exif payload, where it is present.
 fn write_exif_payload(out: &mut [u8], at: usize, present: Part, exif: &[u8]) -> usize
     requires { ⌜ at + exif-size (part present (now exif)) ≤ length (now out) ⌝ }
     ensures { λ r. ⌜ Wrote (now (out .entry)) at (exif-size (part present (now (exif .entry)))) (flatten (exif-payload (part present (now (exif .entry))))) (now (out .exit)) r ⌝ }
 {
     match present {
-        Part::Present => {
-            let a = w32(out, at, 0);
-            put(out, a, exif)
-        }
+        Part::Present => write_exif_data_block(out, at, exif),
         Part::Absent => at,
     }
 }

@@ -14,7 +14,7 @@ use Rattle.panel.specs.Form.{Form}
 use Rattle.panel.specs.Parts.{given, has, listed, tone-of, long}
 use Rattle.panel.specs.declared.Panel.{Panel as Numbers}
 use Rattle.heif.specs.Items.{shape, colour-grid, alpha-tile, alpha-grid, exif-id, Even}
-use Rattle.heif.specs.Mdat.{exif-payload, gain-payloads, other-payloads, mdat, exif-size}
+use Rattle.heif.specs.Mdat.{exif-data-block, exif-payload, gain-payloads, other-payloads, mdat, exif-size}
 use Rattle.heif.specs.Iloc.{Location, extents, located, locations}
 use Rattle.heif.specs.Idat.{descriptor, idat}
 use Rattle.heif.specs.Ipco.{slots, ipco}
@@ -44,7 +44,7 @@ use Rattle.write_file.proofs.Ready.{even, color-sum, alpha-sum, same-as
 
 exif-sizes : (e : Option (List ℕ)) → map length (exif-payload e) ≡ given (has e) (exif-size e ∷ [])
 exif-sizes none = refl
-exif-sizes (some e) = let h : length ((0 ∷ 0 ∷ 0 ∷ 0 ∷ []) ++ e) ≡ 4 + length e = omega arith in ap (λ (k : ℕ). k ∷ []) h
+exif-sizes (some e) = let h : length (exif-data-block e) ≡ 4 + length e = omega arith in ap (λ (k : ℕ). k ∷ []) h
 
 tone-sizes : (t : Option (List ℕ)) → map length (listed t) ≡ given (has t) (long t ∷ [])
 tone-sizes none = refl
