@@ -84,6 +84,23 @@ def check_readers(tally, files):
     return {**versions, info.name: f"libheif {info.libheif}", "exiftool": exiftool.version()}
 
 
+def check_offset(tally, files, room):
+    """exiftool goes by the four bytes before the Exif: with upstream's, which say 0 before the marker too, it does not find
+    the tags (D11). Of a version that does, that is reported."""
+    exiftool = programs.Exiftool()
+    for path, meant in files.items():
+        if meant.panel.exif is None or panels.tiff_header_offset(meant.panel.exif) == 0:
+            continue
+        data = path.read_bytes()
+        at = data.rindex(meant.panel.exif)
+        of_upstream = room / f"{meant.name}-of-upstream.heic"
+        of_upstream.write_bytes(data[: at - 4] + bytes(4) + data[at:])
+        if "DocumentName" in exiftool.read([str(of_upstream)])[str(of_upstream)]:
+            tally.reports.append(f"exiftool: {meant.name}: it finds the tags also where the four bytes say 0 (D11)")
+        else:
+            tally.count("exiftool", "without tags in upstream's")
+
+
 def check_comparison(tally, writer, cache, room):
     """The comparison sees what it should: with two alpha tiles, or two colour tiles, exchanged a file does not pass."""
     convert, itself = programs.HeifConvert(), library.Library()
@@ -110,6 +127,7 @@ def main(writer, cache):
         files = write(writer, every, room)
         versions = check_readers(tally, files)
         check_payloads(tally, files)
+        check_offset(tally, files, room)
         check_comparison(tally, writer, cache, room)
         wide.check(tally, writer, cache, room)
     check_examples(tally)

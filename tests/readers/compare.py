@@ -1,6 +1,7 @@
 """What a reader gave, held to what was meant."""
 
 import expected
+import panels
 import pixels
 import programs
 
@@ -136,8 +137,9 @@ def _parts(tally, reader, meant, seen):
     if panel.icc is not None:
         tally.hold(reader, name, "ICC the same", seen.icc == panel.icc)
     if panel.exif is not None:
-        # libheif hands over the four bytes before the TIFF header, too.
-        tally.hold(reader, name, "Exif the same", seen.exif == bytes(4) + panel.exif)
+        # libheif hands over the four bytes before the Exif, too.
+        offset = panels.tiff_header_offset(panel.exif).to_bytes(4, "big")
+        tally.hold(reader, name, "Exif the same", seen.exif == offset + panel.exif)
     if meant.gain is not None:
         given = seen.gain and seen.gain.at_depth(meant.gain.depth)
         exact = given is not None and all(channel == meant.gain.channels[0] for channel in given.channels)
@@ -176,7 +178,9 @@ def tagged(tally, tags, depths, meant):
     if panel.icc is not None:
         tally.hold("exiftool", name, "ICC the same", tags.get("ICC_Profile") == panel.icc)
     if panel.exif is not None:
-        tally.hold("exiftool", name, "Exif the same", tags.get("EXIF") == panel.exif)
+        offset = panels.tiff_header_offset(panel.exif)
+        marked = " behind its marker" if offset else ""
+        tally.hold("exiftool", name, f"Exif{marked} the same", tags.get("EXIF") == panel.exif[offset:])
         tally.hold("exiftool", name, "batch named", f"{tags.get('DocumentName')}\0".encode() in panel.exif)
     if panel.gain is not None:
         tally.hold("exiftool", name, "XMP the same", _bytes(tags.get("XMP")) == panel.gain.xmp)

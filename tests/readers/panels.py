@@ -24,6 +24,7 @@ UNSPECIFIED = (2, 2, 2, True)
 
 PROFILE = icc.build("Kahopiru readers' test", "Free for any use")
 EXIF = exif.build(exif.Card("Kahopiru Inks", "Test bench", "Readers' test", "T-1", "2026:11:02 09:30:00", "+00:00"))
+MARKER = b"Exif\0\0"  # before the TIFF header in JPEG files, and as some cameras hand Exif over
 
 
 @dataclasses.dataclass
@@ -64,6 +65,8 @@ def cases():
         Case("unstated", csp="i420", cicp=None),
         Case("icc", csp="i420", cicp=None, icc=PROFILE),
         Case("everything-but-gain", icc=PROFILE, light=(203, 96), exif=EXIF),
+        Case("exif-marker", exif=MARKER + EXIF),
+        Case("gain-toned-exif-marker", gain_depth=8, toned=True, exif=MARKER + EXIF),
         Case("gain", gain_depth=8),
         Case("gain-toned", depth=10, gain_depth=10, toned=True),
         Case("gain-toned-turned", gain_depth=8, toned=True, orientation="Rotate90", exif=EXIF),
@@ -199,7 +202,7 @@ def meant(case, cache):
 
 
 def meant_cards():
-    """The example cards, with the drawings that they show."""
+    """The example cards, with the drawings that they show, and the first once more with the marker before its Exif."""
     made = []
     for name, ink, panel_of in (("card", cards.BLUE, cards.blue), ("metallic", cards.BRONZE, cards.metallic)):
         card = cards.drawn(ink)
@@ -207,7 +210,13 @@ def meant_cards():
         alpha = pixels.Picture(card.width, card.height, 8, [drawing.alpha_plane(card)])
         gained = pixels.Picture(cards.GAIN_W, cards.GAIN_H, 8, [cards.gain_plane()]) if name == "metallic" else None
         made.append(Meant(name, panel_of(), colour, alpha, gained, "lossy"))
-    return made
+    marked = dataclasses.replace(made[0].panel, exif=MARKER + made[0].panel.exif)
+    return made + [dataclasses.replace(made[0], name="card-exif-marker", panel=marked)]
+
+
+def tiff_header_offset(exif):
+    """How many bytes of the Exif come before its TIFF header."""
+    return len(MARKER) if exif.startswith(MARKER) else 0
 
 
 def picture(case):

@@ -144,9 +144,9 @@ NAMES = [
     (item(6, properties=[3, 7]),
      ["item 6, grid: an auxiliary picture (auxl) without auxC, which says what it is: readers refuse it"]),
     (payload(7, exif(before=b"Exif\0\0")), ["item 7, Exif: the TIFF header stands behind the marker Exif 00 00, "
-     "and the first four bytes say 0, not 6; readers do not find the Exif"]),
+     "and the first four bytes say 0, not 6; readers that go by these do not find the Exif"]),
     (payload(7, exif(before=b"Exif\0\0", distance=6)), []),
-    (payload(7, bytes(4)), ["item 7, Exif: there is no TIFF header at 4, where the first four bytes put it; readers do not find the Exif"]),
+    (payload(7, bytes(4)), ["item 7, Exif: there is no TIFF header at 4, where the first four bytes put it; readers that go by these do not find the Exif"]),
     (lambda made: made.items.update({30: Item("grid", grid(1, 1, 64, 64), [2], [("dimg", [1])])}), []),
 ]  # fmt: skip
 

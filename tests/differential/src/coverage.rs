@@ -1,6 +1,7 @@
 //! What has occurred among the random panels that were accepted. Whatever never did was not compared.
 
 use crate::panels::{Case, Color, Gain};
+use crate::reference::MARKER;
 use kahopiru::{BitDepth, Cicp, MatrixCoefficients, Orientation, Primaries, TransferFunction};
 
 type Holds = Box<dyn Fn(&Case) -> bool>;
@@ -14,6 +15,7 @@ impl Coverage {
         all.options();
         all.enums();
         all.empty_parts();
+        all.exif();
         all.records();
         all.codes("cicp", |c| c.color.cicp);
         all.codes("gain map's cicp", |c| c.gain.as_ref().map(|g| g.cicp));
@@ -121,6 +123,26 @@ impl Coverage {
         self.add("empty XMP", |c| gained(c, |g| g.xmp.is_empty()));
         self.add("empty tone map", move |c| gained(c, |g| empty(g.tmap.as_ref())));
         self.add("empty alternate ICC", move |c| toned(c, |a| empty(a.icc.as_ref())));
+    }
+
+    fn exif(&mut self) {
+        let is = |case: &Case, holds: fn(&[u8]) -> bool| case.exif.as_deref().is_some_and(holds);
+        let marked = move |c: &Case| is(c, |e| e.starts_with(&MARKER));
+        self.both("Exif with its marker", marked);
+        self.add("the marker alone", move |c| is(c, |e| e == MARKER));
+        self.add("the marker, beside a gain map", move |c| marked(c) && gained(c, |g| g.tmap.is_none()));
+        self.add("the marker, beside a tone map", move |c| marked(c) && gained(c, |g| g.tmap.is_some()));
+        self.add("the marker, and alpha's own depth", move |c| marked(c) && c.bit_depth != c.alpha_bit_depth);
+        self.add("Exif of less than six bytes", move |c| is(c, |e| (1..6).contains(&e.len())));
+        self.add("Exif of the marker's first five bytes", move |c| is(c, |e| e == &MARKER[..5]));
+        self.add("five of the marker's bytes and more", move |c| {
+            is(c, |e| e.len() > 5 && e.starts_with(&MARKER[..5]) && !e.starts_with(&MARKER))
+        });
+        self.add("the marker without its first byte", move |c| is(c, |e| e.starts_with(&MARKER[1..])));
+        self.add("the marker in another case", move |c| {
+            is(c, |e| e.len() > 5 && e[..6].eq_ignore_ascii_case(&MARKER) && !e.starts_with(&MARKER))
+        });
+        self.add("the marker behind a byte", move |c| is(c, |e| e.get(1..7) == Some(&MARKER[..])));
     }
 
     fn records(&mut self) {

@@ -5,6 +5,7 @@ mod codes;
 mod compare;
 mod coverage;
 mod differences;
+mod exifs;
 mod fence;
 mod huge;
 mod memory;
@@ -120,6 +121,7 @@ fn everything(options: &Options) -> Run {
     set("grids", &mut run, sets::grids);
     set("combinations", &mut run, sets::combinations);
     set("depths", &mut run, sets::depths);
+    set("Exif markers", &mut run, sets::exif_markers);
     set("descriptors", &mut run, sets::descriptors);
     set("last ids", &mut run, sets::last_ids);
     set("refusals", &mut run, sets::refusals);

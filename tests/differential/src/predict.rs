@@ -72,7 +72,7 @@ fn transforms(orientation: Orientation) -> i128 {
 }
 
 /// The file's length: the bare file's, and the share of each thing that is more.
-fn length(panel: &Panel<'_>) -> i128 {
+pub fn length(panel: &Panel<'_>) -> i128 {
     let bare = 461
         + 89 * tiles(panel)
         + bytes(panel.color_hvcc)

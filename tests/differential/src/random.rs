@@ -1,6 +1,8 @@
 //! Random panels: every part present or absent, full or empty, and now and then one that is to be refused.
 
+use crate::exifs::near_misses;
 use crate::panels::{Case, Color, Gain};
+use crate::reference::MARKER;
 use kahopiru::TransferFunction;
 use kahopiru::{BitDepth, Cicp, ContentLightLevel, GridDims, MatrixCoefficients, Orientation, Primaries};
 
@@ -30,8 +32,8 @@ impl Rng {
         self.below(times) == 0
     }
 
-    fn pick<T: Copy>(&mut self, from: &[T]) -> T {
-        from[self.below(from.len() as u64) as usize]
+    fn pick<T: Clone>(&mut self, from: &[T]) -> T {
+        from[self.below(from.len() as u64) as usize].clone()
     }
 
     fn maybe<T>(&mut self, make: impl FnOnce(&mut Rng) -> T) -> Option<T> {
@@ -52,6 +54,16 @@ pub fn bytes(rng: &mut Rng) -> Vec<u8> {
         _ => rng.below(700),
     };
     (0..count).map(|_| rng.next() as u8).collect()
+}
+
+/// Exif: one in three begins with its marker, one in three nearly does, alone or with something behind it.
+fn exif(rng: &mut Rng) -> Vec<u8> {
+    let front = match rng.below(3) {
+        0 => MARKER.to_vec(),
+        1 => rng.pick(&near_misses()).exif,
+        _ => Vec::new(),
+    };
+    [front, bytes(rng)].concat()
 }
 
 /// A decoder configuration record, one in three of the range extensions profile where it is long enough to say so.
@@ -141,7 +153,7 @@ pub fn panel(rng: &mut Rng) -> Case {
             max_content_light_level: rng.next() as u16,
             max_pic_average_light_level: rng.next() as u16,
         }),
-        exif: rng.maybe(bytes),
+        exif: rng.maybe(exif),
         gain: rng.maybe(gain),
     };
     if rng.once_in(4000) {

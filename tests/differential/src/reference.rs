@@ -1,11 +1,13 @@
 //! The file that a panel must have: upstream's, with what the specification adds to it.
 //!
 //! Upstream has one depth for colour and alpha. Where a panel has two, its file is upstream's of the panel whose alpha
-//! depth is made the colour's, but for one byte, which is the alpha depth. Where that byte lies is worked out by hand
-//! from the panel's lengths, as a sum of shares, and upstream's file is held to it before it is changed.
+//! depth is made the colour's, but for one byte, which is the alpha depth. Upstream writes four zero bytes before all
+//! Exif. Where that begins with its marker, the file is upstream's but for the fourth of them, which is 6. Where these
+//! bytes lie is worked out by hand from the panel's lengths, as a sum of shares, and upstream's file is held to what it
+//! must have there before it is changed.
 
 use crate::panels::Case;
-use crate::predict::{one_if, rext, tiles};
+use crate::predict::{length, one_if, rext, tiles};
 use crate::upstream;
 use kahopiru::Panel;
 
@@ -16,7 +18,30 @@ pub fn file(case: &Case) -> Result<Vec<u8>, String> {
         let depths = [case.bit_depth.bits(), case.alpha_bit_depth.bits()];
         put_alpha_depth(&mut file, alpha_depth_at(&case.panel()), depths)?;
     }
+    if case.exif.as_ref().is_some_and(|exif| exif.starts_with(&MARKER)) {
+        put_tiff_offset(&mut file, tiff_offset_at(&case.panel()))?;
+    }
     Ok(file)
+}
+
+/// What Exif may begin with, before its TIFF header: "Exif" and two zero bytes.
+pub const MARKER: [u8; 6] = [0x45, 0x78, 0x69, 0x66, 0x00, 0x00];
+
+/// Puts 6 in the place of the last of four zero bytes, behind which Exif must begin with its marker.
+pub fn put_tiff_offset(file: &mut [u8], at: usize) -> Result<(), String> {
+    if file.get(at - 3..at + 7) != Some(&[&[0; 4], &MARKER[..]].concat()) {
+        return Err(format!("in upstream's file byte {at} is not the last of four zeros before Exif with its marker"));
+    }
+    file[at] = 6;
+    Ok(())
+}
+
+/// Where the last of the four bytes before the Exif lies: behind it come the Exif and the gain map's payloads, and then
+/// the file ends.
+pub fn tiff_offset_at(panel: &Panel<'_>) -> usize {
+    let exif = panel.metadata.exif.map_or(0, <[u8]>::len);
+    let gain = panel.gain_map.map_or(0, |g| g.sample.len() + g.xmp.len() + g.tmap.map_or(0, <[u8]>::len));
+    length(panel) as usize - gain - exif - 1
 }
 
 /// Puts the second depth in the place of the first, where a pixi of one channel must end.

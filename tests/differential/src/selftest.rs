@@ -4,6 +4,7 @@
 use crate::compare::{judge, same_answer, same_file, Room};
 use crate::orders;
 use crate::panels::{full, Case};
+use crate::reference::MARKER;
 use crate::{reference, upstream};
 use kahopiru::BitDepth;
 
@@ -23,6 +24,28 @@ fn alpha_depths() -> Vec<Trial> {
         ("two depths exchanged", same_file(&file, &written)),
         ("a place one byte too far", reference::put_alpha_depth(&mut of_one_depth.clone(), at + 1, [12, 8])),
         ("a file of another depth", reference::put_alpha_depth(&mut of_one_depth.clone(), at, [10, 8])),
+    ]
+}
+
+/// A distance to the TIFF header at a wrong place, or not the one that the Exif has.
+fn tiff_offsets() -> Vec<Trial> {
+    let with = |exif: &[u8]| Case { exif: Some(exif.to_vec()), ..full() };
+    let (marked, nearly) = (with(&MARKER), with(&MARKER[..5]));
+    let file = reference::file(&marked).expect("upstream writes it");
+    let near_file = reference::file(&nearly).expect("upstream writes it");
+    let of_upstream = upstream::write(&marked).expect("upstream writes it");
+    let (at, near_at) = (reference::tiff_offset_at(&marked.panel()), reference::tiff_offset_at(&nearly.panel()));
+    let put = |file: &[u8], at: usize, distance| {
+        let mut file = file.to_vec();
+        file[at] = distance;
+        file
+    };
+    vec![
+        ("no distance for the marker", same_file(&file, &of_upstream)),
+        ("a distance from the item's first byte", same_file(&file, &put(&file, at, 10))),
+        ("a distance for five of six bytes", same_file(&near_file, &put(&near_file, near_at, 6))),
+        ("a distance one byte too far", reference::put_tiff_offset(&mut of_upstream.clone(), at + 1)),
+        ("a distance before other Exif", reference::put_tiff_offset(&mut near_file.clone(), near_at)),
     ]
 }
 
@@ -58,7 +81,7 @@ pub fn run() -> (Vec<String>, usize) {
         ("a wrong length alone", same_answer(Ok(556), Ok(557))),
         ("a shorter file", same_file(&file, &file[1..])),
     ];
-    let trials = trials.into_iter().chain(alpha_depths());
+    let trials = trials.into_iter().chain(alpha_depths()).chain(tiff_offsets());
     let mut seen: Vec<(String, bool)> = trials.map(|(name, seen)| (name.into(), seen.is_err())).collect();
     seen.extend(orders::exchanges());
     let made = seen.len();

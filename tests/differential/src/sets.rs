@@ -1,6 +1,8 @@
 //! Sets of panels that are listed, not drawn.
 
+use crate::exifs::{near_misses, NearMiss};
 use crate::panels::{full, p, small_gain, Case, Color, Gain, LIGHT};
+use crate::reference::MARKER;
 use crate::run::Run;
 use kahopiru::{BitDepth, Cicp, Orientation};
 
@@ -59,6 +61,24 @@ pub fn depths(run: &mut Run) {
                     &format!("{bit_depth:?}, alpha {alpha_bit_depth:?}"),
                     &Case { bit_depth, alpha_bit_depth, ..case },
                 );
+            }
+        }
+    }
+}
+
+/// Exif with its marker and nearly so, as it is and with a TIFF header behind it, in panels that have different things
+/// behind the Exif.
+pub fn exif_markers(run: &mut Run) {
+    let marker = NearMiss { name: "the marker", exif: MARKER.to_vec() };
+    for NearMiss { name, exif } in near_misses().into_iter().chain([marker]) {
+        for tail in [&b""[..], b"MM\0*", &MARKER] {
+            let exif = Some([&exif, tail].concat());
+            for case in [
+                p(),
+                Case { gain: Some(small_gain(None)), ..p() },
+                Case { alpha_bit_depth: BitDepth::Twelve, ..full() },
+            ] {
+                run.panel(name, &Case { exif: exif.clone(), ..case });
             }
         }
     }

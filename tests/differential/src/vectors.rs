@@ -1,6 +1,6 @@
 //! A fixed list of upstream's files, to be replayed where neither upstream's source nor Rust is at hand. Each line is a
-//! name, the panel's sheet and upstream's file, both in hexadecimal; where alpha has a depth of its own, upstream's with
-//! that depth in its place (reference.rs).
+//! name, the panel's sheet and upstream's file, both in hexadecimal; where alpha has a depth of its own, or Exif begins
+//! with its marker, upstream's with that depth, or the distance 6, in its place (reference.rs).
 
 use crate::panels::{full, p, small_gain, Case, Color, Gain, LIGHT};
 use crate::reference;
@@ -8,7 +8,7 @@ use crate::sheet::sheet;
 use kahopiru::{BitDepth, Cicp, MatrixCoefficients, Orientation, Primaries, TransferFunction};
 
 /// What the whole list may take, and one file of it.
-const MOST_TEXT: usize = 65_536;
+const MOST_TEXT: usize = 131_072;
 const MOST_FILE: usize = 2_048;
 
 type Vector = (String, Case);
@@ -49,6 +49,10 @@ fn options() -> Vec<Vector> {
         named("light", |c| c.light = Some(LIGHT)),
         named("exif-empty", |c| c.exif = Some(vec![])),
         named("exif", |c| c.exif = Some(b"MM\0*".to_vec())),
+        named("exif-marker", |c| c.exif = Some(b"Exif\0\0MM\0*".to_vec())),
+        named("exif-marker-alone", |c| c.exif = Some(b"Exif\0\0".to_vec())),
+        named("exif-marker-cut", |c| c.exif = Some(b"Exif\0".to_vec())),
+        named("exif-marker-late", |c| c.exif = Some(b"\0Exif\0\0MM\0*".to_vec())),
         ("ten-bits".into(), p().with_depth(BitDepth::Ten)),
         ("twelve-bits".into(), p().with_depth(BitDepth::Twelve)),
         named("twelve-bits-alpha-eight", |c| c.bit_depth = BitDepth::Twelve),
@@ -97,6 +101,7 @@ fn together() -> Vec<Vector> {
         ("full-of-tiles".into(), full().with_grid(3, 1, vec![2, 0, 1], vec![1, 1, 1])),
         ("full-turned".into(), Case { orientation: Orientation::Transpose, ..full() }.with_depth(BitDepth::Twelve)),
         ("full-alpha-twelve".into(), Case { alpha_bit_depth: BitDepth::Twelve, ..full() }),
+        ("full-exif-marker".into(), Case { exif: Some(b"Exif\0\0II*\0".to_vec()), ..full() }),
         ("full-both-rext".into(), Case { color_hvcc: vec![1, 4], orientation: Orientation::FlipV, ..full() }),
     ]
 }
