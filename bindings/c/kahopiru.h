@@ -62,7 +62,8 @@
  *   color_samples   the samples of all colour tiles, back to back      always
  *   alpha_samples   the samples of all alpha tiles, back to back       always
  *   icc             ICC profile                                        if color.has_icc
- *   exif            Exif, from its TIFF header on                      if has_exif
+ *   exif            Exif, from its TIFF header on, or with the         if has_exif
+ *                   six bytes 45 78 69 66 00 00 before that
  *   gain_hvcc       decoder configuration record of the gain image     if has_gain
  *   gain_sample     the gain image's sample                            if has_gain
  *   gain_xmp        XMP packet of the gain image                       if has_gain
@@ -103,7 +104,7 @@
 /* The version of header and archive, which is the Rust crate's. While the first number is 0, the second rises where a
    file of any panel, a struct, a call, a refusal or what a sheet says changes, and the third where nothing of that
    does. A change of a file's bytes is told first in docs/CHANGES.md. */
-#define KAHOPIRU_VERSION "0.3.0"
+#define KAHOPIRU_VERSION "0.4.0"
 
 #ifdef __cplusplus
 extern "C" {

@@ -192,6 +192,7 @@ pub struct Metadata<'a> {
     pub orientation: Orientation,
     /// How bright the content is, if that is known.
     pub content_light_level: Option<ContentLightLevel>,
-    /// The Exif, from its TIFF header on (without the marker `Exif\0\0`), if there is one. It may be empty.
+    /// The Exif, if there is one: from its TIFF header on, or with the marker `Exif\0\0` before that. It is stored as it is,
+    /// and readers are told where the header is. It may be empty.
     pub exif: Option<&'a [u8]>,
 }

@@ -85,6 +85,21 @@ fn options_add_what_the_specification_says() {
 }
 
 #[test]
+fn exif_tells_where_its_tiff_header_is() {
+    let payload = |exif: &[u8]| {
+        let metadata = Metadata { exif: Some(exif), ..Metadata::default() };
+        let file = to_vec(&Panel { metadata, ..p() }).unwrap();
+        assert_eq!(file.len(), 611 + exif.len());
+        file[file.len() - exif.len() - 4..].to_vec()
+    };
+    assert_eq!(payload(b"MM\0*"), b"\0\0\0\0MM\0*");
+    assert_eq!(payload(b"Exif\0\0MM\0*"), b"\0\0\0\x06Exif\0\0MM\0*");
+    assert_eq!(payload(b"Exif\0\0"), b"\0\0\0\x06Exif\0\0");
+    assert_eq!(payload(b"Exif\0"), b"\0\0\0\0Exif\0");
+    assert_eq!(payload(b"EXIF\0\0"), b"\0\0\0\0EXIF\0\0");
+}
+
+#[test]
 fn present_and_empty_is_not_absent() {
     let with = |color_meta| to_vec(&Panel { color_meta, ..p() }).unwrap();
     let none = with(ColorMetadata::default());

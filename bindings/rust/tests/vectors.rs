@@ -118,5 +118,5 @@ fn the_binding_writes_what_upstream_wrote() {
         assert!(sheet_to_vec(&bytes(sheet)).as_ref() == Ok(&bytes(file)), "{name} differs as a sheet");
         count += 1;
     }
-    assert!(count >= 41, "only {count} files are in the list");
+    assert!(count >= 46, "only {count} files are in the list");
 }
