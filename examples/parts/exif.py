@@ -1,4 +1,4 @@
-"""Exif as HEIF holds it: a TIFF structure from its header on, big-endian, without the marker of JPEG files."""
+"""Exif as the cards have it: a TIFF structure from its header on, big-endian, without the marker of JPEG files."""
 
 import dataclasses
 
