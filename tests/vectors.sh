@@ -1,7 +1,7 @@
 #!/usr/bin/env bash
 # tests/vectors/upstream.txt holds upstream's files for a list of sheets: on each line a name, the sheet and the file in hexadecimal,
-# as `differential vectors` prints them from upstream's own writer, with the alpha depth put in where that is another, and the distance
-# to the TIFF header where Exif begins with its marker. The program crate program_sheets replays them inside the proofs' run, with no
+# as `differential vectors` prints them from upstream's own writer, with the alpha depth put in where that is another, and 6, the
+# offset of the TIFF header, where Exif begins with its marker. The program crate program_sheets replays them inside the proofs' run, with no
 # Rust at hand: here it is seen that its sheets and what it must print are those of the list. With --store they are
 # made anew from the list, behind what else program_sheets holds.
 set -euo pipefail

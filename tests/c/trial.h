@@ -49,7 +49,7 @@ given read_sheet(bytes sheet, uint32_t *lengths, bool junk);
 /* Bytes from hexadecimal digits, into room for half as many. */
 bytes from_hex(const char *digits, uint8_t *room);
 
-/* vectors.c: every panel of the list in this file is written as upstream wrote it. Answers how many there are. */
+/* vectors.c: every panel of the list in this file is written as the list has it. Answers how many there are. */
 int try_vectors(const char *path);
 /* refusals.c: every refusal of every call is met. Answers how many refused calls there were. */
 int try_refusals(void);

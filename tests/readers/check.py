@@ -85,8 +85,8 @@ def check_readers(tally, files):
 
 
 def check_offset(tally, files, room):
-    """exiftool goes by the four bytes before the Exif: with upstream's, which say 0 before the marker too, it does not find
-    the tags (D11). Of a version that does, that is reported."""
+    """exiftool goes by the four bytes before the Exif: with upstream's, which say 0 before the marker too, it reads the file
+    and finds none of the Exif's tags (D11). A version that finds them is reported."""
     exiftool = programs.Exiftool()
     for path, meant in files.items():
         if meant.panel.exif is None or panels.tiff_header_offset(meant.panel.exif) == 0:
@@ -95,10 +95,14 @@ def check_offset(tally, files, room):
         at = data.rindex(meant.panel.exif)
         of_upstream = room / f"{meant.name}-of-upstream.heic"
         of_upstream.write_bytes(data[: at - 4] + bytes(4) + data[at:])
-        if "DocumentName" in exiftool.read([str(of_upstream)])[str(of_upstream)]:
-            tally.reports.append(f"exiftool: {meant.name}: it finds the tags also where the four bytes say 0 (D11)")
+        ours, theirs = (exiftool.read([str(file)])[str(file)] for file in (path, of_upstream))
+        for tag in ("ImageSize", "Validate"):
+            tally.hold("exiftool", of_upstream.name, f"{tag} the same", theirs.get(tag) == ours[tag])
+        found = [tag for tag in ("DocumentName", "Make", "DateTimeOriginal") if tag in theirs]
+        if found:
+            tally.reports.append(f"exiftool: {of_upstream.name}: it finds {', '.join(found)}, which D11 does not say")
         else:
-            tally.count("exiftool", "without tags in upstream's")
+            tally.count("exiftool", "as D11 says")
 
 
 def check_comparison(tally, writer, cache, room):

@@ -24,7 +24,7 @@ UNSPECIFIED = (2, 2, 2, True)
 
 PROFILE = icc.build("Kahopiru readers' test", "Free for any use")
 EXIF = exif.build(exif.Card("Kahopiru Inks", "Test bench", "Readers' test", "T-1", "2026:11:02 09:30:00", "+00:00"))
-MARKER = b"Exif\0\0"  # before the TIFF header in JPEG files, and as some cameras hand Exif over
+MARKER = b"Exif\0\0"  # before the TIFF header in JPEG files, and in Exif from some cameras
 
 
 @dataclasses.dataclass

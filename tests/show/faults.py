@@ -144,14 +144,18 @@ NAMES = [
     (item(6, properties=[3, 7]),
      ["item 6, grid: an auxiliary picture (auxl) without auxC, which says what it is: readers refuse it"]),
     (payload(7, exif(before=b"Exif\0\0")), ["item 7, Exif: the TIFF header stands behind the marker Exif 00 00, "
-     "and the first four bytes say 0, not 6; readers that go by these do not find the Exif"]),
+     "and the first four bytes say 0, not 6; exiftool does not find its tags"]),
     (payload(7, exif(before=b"Exif\0\0", distance=6)), []),
-    (payload(7, bytes(4)), ["item 7, Exif: there is no TIFF header at 4, where the first four bytes put it; readers that go by these do not find the Exif"]),
+    (payload(7, bytes(4)),
+     ["item 7, Exif: there is no TIFF header at 4, where the first four bytes put it; exiftool does not find its tags"]),
     (lambda made: made.items.update({30: Item("grid", grid(1, 1, 64, 64), [2], [("dimg", [1])])}), []),
 ]  # fmt: skip
 
 # What the Rust's writer gives, and docs/DIFFERENCES.md tells of, by the vector that shows it.
 STORED = {
+    "exif-marker-alone": [
+        "item 5, Exif: there is no TIFF header at 10, where the first four bytes put it; exiftool does not find its tags"
+    ],
     "full-width-65536": [f"items 2, 4, grid: {FLAGS_2}"],  # S10
     "full-width-65535": ["items 2, 4, grid: 1 × 1 tiles of 64 × 64 cover 64 × 64 pixels, and the grid has 65535 × 64"],  # S4
     "two-rows": ["items 1, 2, 4, 5, hvc1: an extent of length 0, which readers take for the whole file or refuse"],  # S2

@@ -13,6 +13,7 @@ WORDS = {
         (exif("little", make=b"Kahopiru Inks\0"), 'little-endian TIFF of 40 bytes, "Kahopiru Inks"'),
         (exif(before=b"Exif\0\0", distance=6), 'big-endian TIFF of 32 bytes, "Maker"'),
         (exif(before=b"Exif\0\0"), "the TIFF header stands behind the marker Exif 00 00, and the first four bytes say 0, not 6"),
+        (b"\0\0\0\6Exif\0\0", "there is no TIFF header at 10, where the first four bytes put it"),
         (exif()[:8], "big-endian TIFF of 4 bytes, whose first directory is not there"),
         (exif()[:20], "big-endian TIFF of 16 bytes"),
         (exif(make=b"a\x1b[31m\0"), 'big-endian TIFF of 33 bytes, "a\\x1b[31m"'),

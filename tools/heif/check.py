@@ -1,7 +1,7 @@
 """What readers refuse in a file, one sentence for each; findings that are alike are one sentence for all their items.
 
-Seen with real readers are an extent of length 0, Exif behind its marker, tiles that do not cover their grid, and a grid's flags
-(S2, D11, S4 and S10 of docs/DIFFERENCES.md). The others are what the standards ask for; what readers do there is recalled."""
+Seen with real readers are an extent of length 0, a distance of 0 to a TIFF header behind Exif's marker, tiles that do not cover
+their grid, and a grid's flags (S2, D11, S4 and S10 of docs/DIFFERENCES.md). The others are what the standards ask for; what readers do there is recalled."""
 
 from . import grids, hevc, metadata, properties
 from .boxes import NotHeif, body
@@ -120,7 +120,7 @@ class _Check:
         elif item.kind == "grid":
             self._grid(item, payload)
         elif item.kind == "Exif" and payload is not None and metadata.exif_fault(payload):
-            self.of_item(item, f"{metadata.exif_fault(payload)}; readers that go by these do not find the Exif")
+            self.of_item(item, f"{metadata.exif_fault(payload)}; exiftool does not find its tags")
         if self.contents.targets(item.number, "auxl") and not self._properties(item, "auxC"):
             self.of_item(item, "an auxiliary picture (auxl) without auxC, which says what it is: readers refuse it")
 

@@ -6,7 +6,7 @@ from .boxes import printable
 from .fold import plural, words
 
 MAKE, DESCRIPTION, ASCII = 0x010F, 0x010E, 2  # tags and a type of TIFF 6.0
-MARKER = b"Exif\0\0"  # before the TIFF header in JPEG files
+MARKER = b"Exif\0\0"  # before the TIFF header in JPEG files, and in Exif from some cameras
 ORDERS = {b"II*\0": "little", b"MM\0*": "big"}
 LONGEST = 60  # characters of a name that are shown
 
@@ -56,7 +56,7 @@ def exif_fault(payload):
         return f"{plural(len(payload), 'byte')}, too short for Exif"
     if payload[4 + distance : 8 + distance] in ORDERS:
         return None
-    if payload[4:10] == MARKER:
+    if payload[4:10] == MARKER and payload[10:14] in ORDERS:
         return f"the TIFF header stands behind the marker Exif 00 00, and the first four bytes say {distance}, not 6"
     return f"there is no TIFF header at {4 + distance}, where the first four bytes put it"
 

@@ -1,6 +1,7 @@
 //! Upstream's own files, kept in tests/vectors/upstream.txt: each line is a name, a panel sheet and the file that
-//! upstream writes for it, in hexadecimal; where alpha has a depth of its own, with that depth in its place. The binding
-//! must write the same bytes, for the panel and for the sheet.
+//! upstream writes for it, in hexadecimal; where alpha has a depth of its own, with that depth in its place, and where Exif
+//! begins with its marker, with the offset 6 before it. The binding must write the same bytes, for the panel and for the
+//! sheet.
 
 use kahopiru::{sheet_to_vec, to_vec, BitDepth, Cicp, ColorMetadata, ContentLightLevel, EncodedGainMap, GridDims};
 use kahopiru::{MatrixCoefficients, Metadata, Orientation, Panel, Primaries, Samples, TransferFunction};

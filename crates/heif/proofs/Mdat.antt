@@ -59,16 +59,16 @@ exif-inj (some u) (some v) n e =
     let w : exif-data-block u ≡ exif-data-block v = cc in
     (ap some (cancel (be 4 (tiff-header-offset u)) (be 4 (tiff-header-offset v)) refl w .1), cc)
 
--- 45 78 69 66 00 00
-abbrev six : List ℕ
-six = 0x45 ∷ 0x78 ∷ 0x69 ∷ 0x66 ∷ 0x00 ∷ 0x00 ∷ []
+-- the marker, byte by byte
+abbrev marker-bytes : List ℕ
+marker-bytes = 0x45 ∷ 0x78 ∷ 0x69 ∷ 0x66 ∷ 0x00 ∷ 0x00 ∷ []
 
 -- the offset is 6 for Exif that begins with these, and 0 for all other, also for shorter
-pub offset-marked : (tiff : List ℕ) → tiff-header-offset (six ‖ tiff) ≡ 6
+pub offset-marked : (tiff : List ℕ) → tiff-header-offset (marker-bytes ‖ tiff) ≡ 6
 unfolding tiff-header-offset
 offset-marked tiff = refl
 
-pub offset-unmarked : (exif : List ℕ) → (take 6 exif ≡ six → ⊥) → tiff-header-offset exif ≡ 0
+pub offset-unmarked : (exif : List ℕ) → (take 6 exif ≡ marker-bytes → ⊥) → tiff-header-offset exif ≡ 0
 unfolding tiff-header-offset
 offset-unmarked exif h = go (exif begins-with exif-marker) refl
   where
@@ -85,10 +85,10 @@ abbrev found : List ℕ → List ℕ
 found block = drop (4 + value (take 4 block)) block
 
 -- that is the TIFF header, with the marker before it and without
-pub found-marked : (tiff : List ℕ) → found (exif-data-block (six ‖ tiff)) ≡ tiff
+pub found-marked : (tiff : List ℕ) → found (exif-data-block (marker-bytes ‖ tiff)) ≡ tiff
 found-marked tiff = rw (offset-marked tiff)
 
-pub found-unmarked : (tiff : List ℕ) → (take 6 tiff ≡ six → ⊥) → found (exif-data-block tiff) ≡ tiff
+pub found-unmarked : (tiff : List ℕ) → (take 6 tiff ≡ marker-bytes → ⊥) → found (exif-data-block tiff) ≡ tiff
 found-unmarked tiff h = rw (offset-unmarked tiff h)
 
 -- ---- how many payloads, and how many bytes

@@ -20,14 +20,15 @@ samples (n ∷ l) bytes = take n bytes ∷ samples l (drop n bytes)
 abbrev pub exif-marker : List ℕ
 exif-marker = text "Exif" ‖ 0x00 ∷ 0x00 ∷ []
 
--- how many of the Exif bytes come before its TIFF header: the six of the marker, or none
+-- exif_tiff_header_offset: how many of the Exif bytes come before the TIFF header, the six of the marker or none
 unfoldable pub tiff-header-offset : List ℕ → ℕ
 tiff-header-offset exif = cond (exif begins-with exif-marker) 6 0
 
--- the payload of an Exif item: the offset of the TIFF header in the Exif bytes, then these as they are given
+-- 23008-12, annex A, ExifDataBlock: the payload of an Exif item is that offset in 32 bits, then the Exif bytes as they are given
 abbrev pub exif-data-block : List ℕ → List ℕ
 exif-data-block exif = be 4 (tiff-header-offset exif) ‖ exif
 
+-- where there is Exif, one payload
 abbrev pub exif-payload : Option (List ℕ) → List (List ℕ)
 exif-payload none = []
 exif-payload (some exif) = exif-data-block exif ∷ []

@@ -4,8 +4,8 @@ use mathlib.Core.List.{List, [], _∷_}
 use Prim.Native.Nat.{ℕ, _-_}
 use Prim.Native.String.{String}
 use lib.Dec.{eqb}
-use lib.ListN.{take, drop, getD}
-use Rattle.octets.specs.Numbers.{_‖_, be, text, _begins-with_}
+use lib.ListN.{length, take, drop, getD}
+use Rattle.octets.specs.Numbers.{_‖_, be, text}
 use Rattle.octets.specs.Boxes.{Box, box, boxes, tag, kind}
 use Rattle.panel.specs.Panel.{Panel}
 use Rattle.panel.specs.Form.{ordinary}
@@ -54,7 +54,7 @@ same-outcome (refused k) (made n) = false
 
 -- x stands at i of l
 abbrev pub stands : List ℕ → ℕ → List ℕ → Bool
-stands l i x = drop i l begins-with x
+stands l i x = same (take (length x) (drop i l)) x
 
 abbrev pub no-box : Box
 no-box = box "" []

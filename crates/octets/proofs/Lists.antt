@@ -11,7 +11,7 @@ use lib.ListN.{length, length-append, take, drop, getD, take-append-drop}
 use lib.Seq.{take-suc, drop-cons}
 use borrow.Author.Tests.{eqb-true, eq-eqb, ne-eqb}
 use Rattle.octets.specs.Numbers.{total, _begins-with_}
-use Rattle.octets.proofs.Tests.{and-both, and-fails}
+use Rattle.octets.proofs.Tests.{and-both, and-second-false}
 
 -- ---- fronts of equal length
 
@@ -75,7 +75,7 @@ begins-front (b ∷ l) (m ∷ front) e =
 pub begins-short : (l front : List ℕ) → length l < length front → l begins-with front ≡ false
 begins-short l [] h = absurd (omega arith)
 begins-short [] (m ∷ front) h = refl
-begins-short (b ∷ l) (m ∷ front) h = and-fails (eqb b m) (l begins-with front) (begins-short l front (omega arith))
+begins-short (b ∷ l) (m ∷ front) h = and-second-false (eqb b m) (l begins-with front) (begins-short l front (omega arith))
 
 -- from an index on, within both: the byte there decides, or the bytes behind it do
 module _ (l front : List ℕ) (i : ℕ) (h : i < length l) (k : i < length front) where

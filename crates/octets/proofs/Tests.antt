@@ -41,6 +41,6 @@ and-both true b e = (refl, e)
 and-both false b e = absurd (let z : _≡_ {A = ℕ} 0 1 = cc in omega arith)
 
 -- the second does not hold
-pub and-fails : (a b : Bool) → b ≡ false → (a && b) ≡ false
-and-fails true b e = e
-and-fails false b e = refl
+pub and-second-false : (a b : Bool) → b ≡ false → (a && b) ≡ false
+and-second-false true b e = e
+and-second-false false b e = refl

@@ -1,4 +1,4 @@
--- Numbers and texts as bytes.
+-- Numbers and texts as bytes, and what bytes begin with.
 use mathlib.Core.Bool.{Bool, true, false, _&&_}
 use mathlib.Core.List.{List, [], _∷_, _++_}
 use Prim.Native.Nat.{ℕ, zero, suc, _+_, _*_, _/_, _%_, _^_}

@@ -1,11 +1,11 @@
-// Numbers and bytes written into a lent buffer.
+// Numbers and bytes written into a lent buffer, and what bytes begin with.
 //
 // Each function that writes takes a position and answers the one behind what it wrote. specs/ holds the definitions of numbers, boxes and
 // writes, and proofs/ their laws, once for all crates.
 ghost use mathlib.Core.Path.{_≡_};
 ghost use Prim.Native.Nat.{_+_, _≤_, _<_};
 ghost use lib.ListN.{length};
-ghost use Rattle.octets.specs.Numbers.{_‖_, be};
+ghost use Rattle.octets.specs.Numbers.{_‖_, be, _begins-with_};
 ghost use Rattle.octets.specs.Stores.{Wrote};
 
 // Writes one byte.
@@ -81,4 +81,21 @@ pub fn size_of(head: u32, len: usize) -> u32
     ensures { λ r. ⌜ r ≡ head + len ⌝ }
 {
     head + len as u32
+}
+
+// Whether bytes begin with others.
+pub fn begins_with(bytes: &[u8], front: &[u8]) -> bool
+    ensures { λ r. ⌜ r ≡ (now (bytes .entry) begins-with now (front .entry)) ⌝ }
+{
+    if bytes.len() < front.len() {
+        return false;
+    }
+    let mut i = 0;
+    while i < front.len() {
+        if bytes[i] != front[i] {
+            return false;
+        }
+        i += 1;
+    }
+    true
 }

@@ -1,5 +1,6 @@
 // mdat: the payloads, one after the other.
 ghost use mathlib.Core.Path.{_≡_};
+ghost use mathlib.Core.Option.{some};
 ghost use mathlib.Core.List.{[], _∷_, flatten};
 ghost use Prim.Native.Nat.{_+_, _≤_, _<_};
 ghost use lib.ListN.{length};
@@ -19,8 +20,8 @@ use plan_items::exif::tiff_header_offset;
 
 // The payload of an Exif item: the offset of the TIFF header in the Exif bytes, then these.
 fn write_exif_data_block(out: &mut [u8], at: usize, exif: &[u8]) -> usize
-    requires { ⌜ at + (4 + length (now exif)) ≤ length (now out) ⌝ }
-    ensures { λ r. ⌜ Wrote (now (out .entry)) at (4 + length (now (exif .entry))) (exif-data-block (now (exif .entry))) (now (out .exit)) r ⌝ }
+    requires { ⌜ at + exif-size (some (now exif)) ≤ length (now out) ⌝ }
+    ensures { λ r. ⌜ Wrote (now (out .entry)) at (exif-size (some (now (exif .entry)))) (exif-data-block (now (exif .entry))) (now (out .exit)) r ⌝ }
 {
     let offset = tiff_header_offset(exif);
     let a = w32(out, at, offset);

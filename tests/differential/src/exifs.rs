@@ -2,18 +2,18 @@
 
 use crate::reference::MARKER;
 
-/// A start of Exif that is not the marker, and what is wrong with it.
+/// What Exif begins with, and what is said of it.
 #[derive(Clone)]
-pub struct NearMiss {
+pub struct Start {
     pub name: &'static str,
-    pub exif: Vec<u8>,
+    pub bytes: Vec<u8>,
 }
 
-/// Everything that comes close to the marker: its first bytes alone, one of its bytes left out, another one in its place,
+/// What comes close to the marker: its first bytes alone, one of its bytes left out, another one in its place,
 /// its letters in another case, and something before it.
-pub fn near_misses() -> Vec<NearMiss> {
+pub fn near_misses() -> Vec<Start> {
     let mut all = Vec::new();
-    let mut add = |name, exif: &[u8]| all.push(NearMiss { name, exif: exif.to_vec() });
+    let mut add = |name, bytes: &[u8]| all.push(Start { name, bytes: bytes.to_vec() });
     for count in 1..MARKER.len() {
         add("less than the marker", &MARKER[..count]);
     }

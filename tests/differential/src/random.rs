@@ -60,7 +60,7 @@ pub fn bytes(rng: &mut Rng) -> Vec<u8> {
 fn exif(rng: &mut Rng) -> Vec<u8> {
     let front = match rng.below(3) {
         0 => MARKER.to_vec(),
-        1 => rng.pick(&near_misses()).exif,
+        1 => rng.pick(&near_misses()).bytes,
         _ => Vec::new(),
     };
     [front, bytes(rng)].concat()

@@ -27,7 +27,7 @@ fn alpha_depths() -> Vec<Trial> {
     ]
 }
 
-/// A distance to the TIFF header at a wrong place, or not the one that the Exif has.
+/// An offset of the TIFF header at a wrong place, or not the one that the Exif has.
 fn tiff_offsets() -> Vec<Trial> {
     let with = |exif: &[u8]| Case { exif: Some(exif.to_vec()), ..full() };
     let (marked, nearly) = (with(&MARKER), with(&MARKER[..5]));
@@ -35,17 +35,17 @@ fn tiff_offsets() -> Vec<Trial> {
     let near_file = reference::file(&nearly).expect("upstream writes it");
     let of_upstream = upstream::write(&marked).expect("upstream writes it");
     let (at, near_at) = (reference::tiff_offset_at(&marked.panel()), reference::tiff_offset_at(&nearly.panel()));
-    let put = |file: &[u8], at: usize, distance| {
+    let put = |file: &[u8], at: usize, offset| {
         let mut file = file.to_vec();
-        file[at] = distance;
+        file[at] = offset;
         file
     };
     vec![
-        ("no distance for the marker", same_file(&file, &of_upstream)),
-        ("a distance from the item's first byte", same_file(&file, &put(&file, at, 10))),
-        ("a distance for five of six bytes", same_file(&near_file, &put(&near_file, near_at, 6))),
-        ("a distance one byte too far", reference::put_tiff_offset(&mut of_upstream.clone(), at + 1)),
-        ("a distance before other Exif", reference::put_tiff_offset(&mut near_file.clone(), near_at)),
+        ("no offset for the marker", same_file(&file, &of_upstream)),
+        ("an offset from the payload's first byte", same_file(&file, &put(&file, at, 10))),
+        ("an offset for five of six bytes", same_file(&near_file, &put(&near_file, near_at, 6))),
+        ("an offset one byte too far", reference::put_tiff_offset(&mut of_upstream.clone(), at + 1)),
+        ("an offset before other Exif", reference::put_tiff_offset(&mut near_file.clone(), near_at)),
     ]
 }
 

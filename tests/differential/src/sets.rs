@@ -1,6 +1,6 @@
 //! Sets of panels that are listed, not drawn.
 
-use crate::exifs::{near_misses, NearMiss};
+use crate::exifs::{near_misses, Start};
 use crate::panels::{full, p, small_gain, Case, Color, Gain, LIGHT};
 use crate::reference::MARKER;
 use crate::run::Run;
@@ -69,10 +69,10 @@ pub fn depths(run: &mut Run) {
 /// Exif with its marker and nearly so, as it is and with a TIFF header behind it, in panels that have different things
 /// behind the Exif.
 pub fn exif_markers(run: &mut Run) {
-    let marker = NearMiss { name: "the marker", exif: MARKER.to_vec() };
-    for NearMiss { name, exif } in near_misses().into_iter().chain([marker]) {
+    let marker = Start { name: "the marker", bytes: MARKER.to_vec() };
+    for Start { name, bytes } in near_misses().into_iter().chain([marker]) {
         for tail in [&b""[..], b"MM\0*", &MARKER] {
-            let exif = Some([&exif, tail].concat());
+            let exif = Some([&bytes, tail].concat());
             for case in [
                 p(),
                 Case { gain: Some(small_gain(None)), ..p() },

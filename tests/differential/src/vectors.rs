@@ -1,6 +1,6 @@
 //! A fixed list of upstream's files, to be replayed where neither upstream's source nor Rust is at hand. Each line is a
 //! name, the panel's sheet and upstream's file, both in hexadecimal; where alpha has a depth of its own, or Exif begins
-//! with its marker, upstream's with that depth, or the distance 6, in its place (reference.rs).
+//! with its marker, upstream's with that depth, or the offset 6, in its place (reference.rs).
 
 use crate::panels::{full, p, small_gain, Case, Color, Gain, LIGHT};
 use crate::reference;

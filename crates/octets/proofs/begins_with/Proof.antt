@@ -5,10 +5,10 @@ use Prim.Native.Nat.{ℕ, _-_, _≤_}
 use native.Mathlib.Omega.{arith}
 use lib.ListN.{length, drop, drop-of-length-le}
 use borrow.Author.Needs.{needs}
 use Rattle.octets.specs.Numbers.{_begins-with_}
 use Rattle.octets.proofs.Lists.{begins-short, begins-differs, begins-next}
-use Rattle.plan_items.proofs.exif.begins_with.Statement.{statement}
-use Rattle.plan_items.proofs.exif.begins_with.Tie as tie
+use Rattle.octets.proofs.begins_with.Statement.{statement}
+use Rattle.octets.proofs.begins_with.Tie as tie
 
 abbrev Inv-loop : tie.InvT-loop
 Inv-loop bytes front i₀ i = (i ≤ length front) × (bytes begins-with front ≡ drop i bytes begins-with drop i front)
