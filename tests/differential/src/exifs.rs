@@ -1,4 +1,4 @@
-//! Exif that begins with its marker, and Exif that nearly does.
+//! Exif that nearly begins with its marker.
 
 use crate::reference::MARKER;
 
@@ -9,8 +9,8 @@ pub struct Start {
     pub bytes: Vec<u8>,
 }
 
-/// What comes close to the marker: its first bytes alone, one of its bytes left out, another one in its place,
-/// its letters in another case, and something before it.
+/// What comes close to the marker: its first bytes alone, one of its bytes left out, another one in its place, its
+/// letters in another case, and something before it.
 pub fn near_misses() -> Vec<Start> {
     let mut all = Vec::new();
     let mut add = |name, bytes: &[u8]| all.push(Start { name, bytes: bytes.to_vec() });

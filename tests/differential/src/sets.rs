@@ -66,8 +66,8 @@ pub fn depths(run: &mut Run) {
     }
 }
 
-/// Exif with its marker and nearly so, as it is and with a TIFF header behind it, in panels that have different things
-/// behind the Exif.
+/// Exif with its marker and nearly so, as it is, with a TIFF header behind it and with the marker behind it, in panels
+/// that have different things behind the Exif.
 pub fn exif_markers(run: &mut Run) {
     let marker = Start { name: "the marker", bytes: MARKER.to_vec() };
     for Start { name, bytes } in near_misses().into_iter().chain([marker]) {
