@@ -1,4 +1,6 @@
 // What crosses to C: a panel as numbers and codes, and what a call answers; and what is read off a panel without looking a code up.
+#![tactic(auto)]
+
 ghost use Rattle.std.specs.Prelude.{◌≡◌};
 ghost use Rattle.panel.specs.Outcome.{refused};
 ghost use Rattle.c_types.specs.Told.{told};
@@ -9,7 +11,7 @@ use panel::metadata::ContentLightLevel;
 
 // A colour encoding: three code points of ISO/IEC 23091-2, and 1 for the full range, else 0.
 #[repr(C)]
-#[derive(Drop)]
+#[derive(Clone, Copy)]
 pub struct CicpCodes {
     pub primaries: u16,
     pub transfer: u16,
@@ -19,7 +21,7 @@ pub struct CicpCodes {
 
 // How a picture states its colour. Each byte that begins with has is 1 where the part is present, else 0.
 #[repr(C)]
-#[derive(Drop)]
+#[derive(Clone, Copy)]
 pub struct ColorCodes {
     pub has_cicp: u8,
     pub has_icc: u8,
@@ -28,7 +30,7 @@ pub struct ColorCodes {
 
 // The numbers of a gain map.
 #[repr(C)]
-#[derive(Drop)]
+#[derive(Clone, Copy)]
 pub struct GainCodes {
     pub width: u32,
     pub height: u32,
@@ -41,7 +43,7 @@ pub struct GainCodes {
 
 // The numbers of a panel. Depths: 0 to 2 for Eight to Twelve. Orientation: 0 to 7 in the enum's order.
 #[repr(C)]
-#[derive(Drop)]
+#[derive(Clone, Copy)]
 pub struct PanelCodes {
     pub cols: u32,
     pub rows: u32,
@@ -63,7 +65,7 @@ pub struct PanelCodes {
 
 // What a call answers: 0 and the file's length, or the number of the refusal and 0.
 #[repr(C)]
-#[derive(Drop)]
+#[derive(Clone, Copy)]
 pub struct Told {
     pub refusal: u32,
     pub length: u64,

@@ -1,1 +1,3 @@
 // The trial panels, computed from the definitions, and the wrong programs that the promises rule out.
+
+#![tactic(auto)]

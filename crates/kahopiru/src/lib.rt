@@ -1,6 +1,8 @@
 // The functions of the static library: the length of a panel's file, the file, and where a tile lies (tile). A panel comes as numbers and
 // codes, its byte parts lent beside them, each as a pointer and a length. A code that stands for nothing is refused with 13, before all checks.
 
+#![tactic(auto)]
+
 pub mod sheet_call;
 pub mod tile;
 

@@ -10,7 +10,7 @@ use plan_tile::tile_span;
 // Where a tile's payload lies: in the alpha samples where `alpha` is 1, else in the colour samples, from `start` on, `length` bytes.
 // Where `refusal` is not 0, all else is 0.
 #[repr(C)]
-#[derive(Drop)]
+#[derive(Clone, Copy)]
 pub struct TilePlace {
     pub refusal: u32,
     pub alpha: u32,

@@ -2,6 +2,8 @@
 //
 // Each function that writes takes a position and answers the one behind what it wrote. specs/ holds the definitions of numbers, boxes and
 // writes, and proofs/ their laws, once for all crates.
+#![tactic(auto)]
+
 ghost use Rattle.std.specs.Prelude.{◌≡◌, ◌+◌, ◌≤◌, ◌<◌, length};
 ghost use Rattle.octets.specs.Numbers.{◌‖◌, be, ◌begins_with◌};
 ghost use Rattle.octets.specs.Stores.{Wrote};
@@ -83,7 +85,7 @@ pub fn size_of(head: u32, len: usize) -> u32
 
 // Whether bytes begin with others.
 pub fn begins_with(bytes: &[u8], front: &[u8]) -> bool
-    ensures { result ≡ (bytes.now begins_with (λ x. x.now) front.entry) }
+    ensures { result ≡ (bytes.now begins_with front.now) }
 {
     if bytes.len() < front.len() {
         return false;

@@ -37,7 +37,7 @@ module _ {A : Type 0} (code : A → ℕ) where
 
   missed : {B : Type 0} (n : ℕ) (l : List A) → MissesAfter B n l → B × (none ≡ named code l n)
   missed n [] m = (m, refl)
-  missed n (a ∷ l) m = let r = missed n l m in (r.0.0, go (eqb n (code a)) refl r.0.1 r.1)
+  missed {B = B} n (a ∷ l) m = let r = missed {B = B × (n ≡ code a → ⊥)} n l m in (r.0.0, go (eqb n (code a)) refl r.0.1 r.1)
     where
       go : (b : Bool) → eqb n (code a) ≡ b → (n ≡ code a → ⊥) → none ≡ named code l n → none ≡ cond b (some a) (named code l n)
       go true e f r = absurd (f (eqb-true n (code a) e))

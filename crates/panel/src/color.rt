@@ -7,7 +7,7 @@ ghost use Rattle.panel.specs.Parts.{has};
 use crate::part::Part;
 
 // Colour primaries (ISO/IEC 23091-2, table 2).
-#[derive(Drop)]
+#[derive(Clone, Copy)]
 pub enum Primaries {
     Reserved,
     Bt709,
@@ -24,7 +24,7 @@ pub enum Primaries {
     Ebu3213,
 }
 
-#[derive(Drop)]
+#[derive(Clone, Copy)]
 pub enum MaybePrimaries {
     Some(Primaries),
     None,
@@ -88,7 +88,7 @@ impl Primaries {
 }
 
 // Transfer characteristics (ISO/IEC 23091-2, table 3).
-#[derive(Drop)]
+#[derive(Clone, Copy)]
 pub enum TransferFunction {
     Reserved,
     Bt709,
@@ -110,7 +110,7 @@ pub enum TransferFunction {
     Hlg,
 }
 
-#[derive(Drop)]
+#[derive(Clone, Copy)]
 pub enum MaybeTransferFunction {
     Some(TransferFunction),
     None,
@@ -184,7 +184,7 @@ impl TransferFunction {
 }
 
 // Matrix coefficients (ISO/IEC 23091-2, table 4).
-#[derive(Drop)]
+#[derive(Clone, Copy)]
 pub enum MatrixCoefficients {
     Identity,
     Bt709,
@@ -206,7 +206,7 @@ pub enum MatrixCoefficients {
     YCgCoRo,
 }
 
-#[derive(Drop)]
+#[derive(Clone, Copy)]
 pub enum MaybeMatrixCoefficients {
     Some(MatrixCoefficients),
     None,
@@ -280,7 +280,7 @@ impl MatrixCoefficients {
 }
 
 // A colour encoding by code points.
-#[derive(Drop)]
+#[derive(Clone, Copy)]
 pub struct Cicp {
     pub primaries: Primaries,
     pub transfer: TransferFunction,
@@ -302,20 +302,20 @@ impl Cicp {
     }
 }
 
-#[derive(Drop)]
+#[derive(Clone, Copy)]
 pub enum MaybeCicp {
     Some(Cicp),
     None,
 }
 
 // How a picture states its colour: by code points, by an ICC profile lent beside it, by both, or not at all.
-#[derive(Drop)]
+#[derive(Clone, Copy)]
 pub struct ColorMetadata {
     pub cicp: MaybeCicp,
     pub icc: Part,
 }
 
-#[derive(Drop)]
+#[derive(Clone, Copy)]
 pub enum MaybeColorMetadata {
     Some(ColorMetadata),
     None,

@@ -2,7 +2,7 @@
 ghost use Rattle.std.specs.Prelude.{◌≡◌};
 ghost use Rattle.panel.specs.Types.{bits};
 
-#[derive(Drop)]
+#[derive(Clone, Copy)]
 pub enum BitDepth {
     Eight,
     Ten,

@@ -3,7 +3,7 @@ use crate::color::{Cicp, MaybeColorMetadata};
 use crate::fmt::BitDepth;
 use crate::part::Part;
 
-#[derive(Drop)]
+#[derive(Clone, Copy)]
 pub struct EncodedGainMap {
     pub width: u32,
     pub height: u32,
@@ -13,7 +13,7 @@ pub struct EncodedGainMap {
     pub alternate_color: MaybeColorMetadata,
 }
 
-#[derive(Drop)]
+#[derive(Clone, Copy)]
 pub enum MaybeGainMap {
     Some(EncodedGainMap),
     None,

@@ -3,6 +3,8 @@
 // Byte parts (decoder configuration records, samples, ICC profiles, Exif, XMP, tone map) are lent as slices beside a `Panel`. specs/ holds the
 // pure panel that numbers and slices stand for, and when two panels agree; the file that a panel has is defined in `heif`.
 
+#![tactic(auto)]
+
 pub mod color;
 pub mod fmt;
 pub mod gain_map;
@@ -19,7 +21,7 @@ use crate::gain_map::MaybeGainMap;
 use crate::metadata::Metadata;
 
 // The forms of a file, of which the caller chooses one. The definition `form_of` says what each is.
-#[derive(Drop)]
+#[derive(Clone, Copy)]
 pub enum FileForm {
     Ordinary,
 }
@@ -36,20 +38,20 @@ impl FileForm {
 }
 
 // An item's id in the ordinary form. Not a property's position: neither is taken for the other.
-#[derive(Drop)]
+#[derive(Clone, Copy)]
 pub struct ItemId(pub u16);
 
 // An item's id as it is counted, before the form says how many bytes it takes. That of an absent item may be more than the ordinary form
 // holds.
-#[derive(Drop)]
+#[derive(Clone, Copy)]
 pub struct WideItemId(pub u32);
 
 // A property's position in ipco, counted from 1.
-#[derive(Drop)]
+#[derive(Clone, Copy)]
 pub struct PropertyPosition(pub u8);
 
 // The tile grid: its columns and rows, the size of a tile, and the size of the whole picture.
-#[derive(Drop)]
+#[derive(Clone, Copy)]
 pub struct GridDims {
     pub cols: u32,
     pub rows: u32,
@@ -60,7 +62,7 @@ pub struct GridDims {
 }
 
 // Which items a file has: how many tiles each picture, and whether Exif, a gain map and a tone map.
-#[derive(Drop)]
+#[derive(Clone, Copy)]
 pub struct Shape {
     pub tiles: u32,
     pub exif: bool,
@@ -69,7 +71,7 @@ pub struct Shape {
 }
 
 // The numbers of a panel.
-#[derive(Drop)]
+#[derive(Clone, Copy)]
 pub struct Panel {
     pub dims: GridDims,
     pub bit_depth: BitDepth,
@@ -80,7 +82,7 @@ pub struct Panel {
 }
 
 // Why a call refuses, in the order of the checks. The definition `number` gives each its number, from 1 to 6.
-#[derive(Drop)]
+#[derive(Clone, Copy)]
 pub enum Refusal {
     // 1: rows or columns are 0 or above 256.
     GridSide,
@@ -111,7 +113,7 @@ pub fn refusal_number(r: Refusal) -> u8
 }
 
 // What a call answers: the file's length, or why it refuses.
-#[derive(Drop)]
+#[derive(Clone, Copy)]
 pub enum Answer {
     Length(u64),
     Refused(Refusal),

@@ -5,7 +5,7 @@ ghost use Rattle.panel.specs.Types.{irot_steps, imir_axis, maybe_axis};
 use crate::part::Part;
 
 // The eight orientations, in Exif's order.
-#[derive(Drop)]
+#[derive(Clone, Copy)]
 pub enum Orientation {
     Normal,
     FlipH,
@@ -18,7 +18,7 @@ pub enum Orientation {
 }
 
 // The axis of an imir property, where there is one.
-#[derive(Drop)]
+#[derive(Clone, Copy)]
 pub enum ImirAxis {
     Some(bool),
     None,
@@ -59,20 +59,20 @@ impl Orientation {
 }
 
 // Content light level, in candela per square metre.
-#[derive(Drop)]
+#[derive(Clone, Copy)]
 pub struct ContentLightLevel {
     pub max_content_light_level: u16,
     pub max_pic_average_light_level: u16,
 }
 
-#[derive(Drop)]
+#[derive(Clone, Copy)]
 pub enum MaybeLightLevel {
     Some(ContentLightLevel),
     None,
 }
 
 // What is said of the picture beside its colour. The Exif bytes are lent beside it.
-#[derive(Drop)]
+#[derive(Clone, Copy)]
 pub struct Metadata {
     pub orientation: Orientation,
     pub content_light_level: MaybeLightLevel,

@@ -2,7 +2,7 @@
 ghost use Rattle.std.specs.Prelude.{◌≡◌, cond, ◌≤◌};
 
 // Whether a byte part belongs to the panel. Bytes lent beside an absent part are not looked at.
-#[derive(Drop)]
+#[derive(Clone, Copy)]
 pub enum Part {
     Absent,
     Present,

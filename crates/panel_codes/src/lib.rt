@@ -1,5 +1,7 @@
 // What the codes of a panel's enums stand for. A code that no value has stands for nothing.
 
+#![tactic(auto)]
+
 pub mod optional;
 
 ghost use Rattle.std.specs.Prelude.{◌≡◌};
@@ -16,7 +18,7 @@ use panel::color::{
 use panel::fmt::BitDepth;
 use panel::metadata::Orientation;
 
-#[derive(Drop)]
+#[derive(Clone, Copy)]
 pub enum MaybeDepth {
     Some(BitDepth),
     None,
@@ -56,7 +58,7 @@ pub fn depth_named(code: u16) -> MaybeDepth
     }
 }
 
-#[derive(Drop)]
+#[derive(Clone, Copy)]
 pub enum MaybeOrientation {
     Some(Orientation),
     None,
@@ -101,7 +103,7 @@ pub fn orientation_named(code: u16) -> MaybeOrientation
     }
 }
 
-#[derive(Drop)]
+#[derive(Clone, Copy)]
 pub enum MaybeBool {
     Some(bool),
     None,
@@ -165,7 +167,7 @@ pub fn or_unspecified(cicp: MaybeCicp) -> Cicp
 }
 
 // The kinds of codes.
-#[derive(Drop)]
+#[derive(Clone, Copy)]
 pub enum CodeKind {
     Depth,
     Orientation,

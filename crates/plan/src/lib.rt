@@ -1,4 +1,6 @@
 // The plan of a panel's file, computed from lengths alone before anything is written; and the length call.
+#![tactic(auto)]
+
 ghost use Rattle.std.specs.Prelude.{◌≡◌};
 ghost use Rattle.panel.specs.Lent.{Lent, lent};
 ghost use Rattle.panel.specs.Of.{panel_of};
@@ -20,7 +22,7 @@ use plan_sizes::lengths::{gain_lengths, lengths_of};
 use plan_sizes::sizes_of;
 
 // What a file is made from: its length, its layout, and the places of its properties.
-#[derive(Drop)]
+#[derive(Clone, Copy)]
 pub struct FilePlan {
     pub length: u64,
     pub layout: Layout,
@@ -28,14 +30,14 @@ pub struct FilePlan {
 }
 
 // Why a panel is refused, or what its file is made from.
-#[derive(Drop)]
+#[derive(Clone, Copy)]
 pub enum Plan {
     Refused(Refusal),
     Made(FilePlan),
 }
 
 // Why a panel is refused by its numbers and its lists of lengths, or which items its file has.
-#[derive(Drop)]
+#[derive(Clone, Copy)]
 pub enum Checked {
     Refused(Refusal),
     Passed(Shape),

@@ -1,4 +1,6 @@
 // The checks 1 to 4 of a panel, each of which answers whether it refuses.
+#![tactic(auto)]
+
 ghost use Rattle.std.specs.Prelude.{◌≡◌, ◌||◌, ◌*◌, ◌≤◌, eqb, length};
 ghost use Rattle.octets.specs.Numbers.{total};
 ghost use Rattle.panel.specs.Form.{form_of};

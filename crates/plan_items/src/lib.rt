@@ -1,6 +1,8 @@
 // What a file is made of, before its numbers are worked out: its items and their ids, what its form, its grid, its records and its Exif
 // decide, and the lengths of the gain map's payloads.
 
+#![tactic(auto)]
+
 pub mod brands;
 pub mod exif;
 pub mod form;

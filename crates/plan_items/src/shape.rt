@@ -31,7 +31,7 @@ pub fn has_cicp(cicp: MaybeCicp) -> bool
 }
 
 // Of a gain map that may be absent: whether it is there, and whether it has a tone map.
-#[derive(Drop)]
+#[derive(Clone, Copy)]
 pub struct GainParts {
     pub gain: bool,
     pub tone: bool,

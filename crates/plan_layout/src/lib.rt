@@ -1,4 +1,6 @@
 // The layout of a file: the whole size of each box and where the payloads begin; and the length of the file.
+#![tactic(auto)]
+
 ghost use Rattle.heif.specs.File.{size};
 ghost use Rattle.plan_sizes.specs.Capped.{Capped};
 ghost use Rattle.plan_sizes.specs.Sized.{Sized, Small};
@@ -11,7 +13,7 @@ use plan_sizes::Sizes;
 // What a file is laid out by: which items it has, the length of a grid's descriptor, the whole size of each box, the offsets where the
 // colour samples, the alpha samples and the payloads behind them begin, how many bytes these payloads have, and whether the records are of
 // the range extensions' profile.
-#[derive(Drop)]
+#[derive(Clone, Copy)]
 pub struct Layout {
     pub shape: Shape,
     pub descriptor: u32,

@@ -6,13 +6,13 @@ use plan_runs::Positions;
 use plan_runs::gain_map::{ImagePlaces, TonePlaces, image_places, tone_places};
 
 // The positions of the gain map's properties: the gain image's, and the tone map's.
-#[derive(Drop)]
+#[derive(Clone, Copy)]
 pub struct GainPlaces {
     pub image: ImagePlaces,
     pub tone: TonePlaces,
 }
 
-#[derive(Drop)]
+#[derive(Clone, Copy)]
 pub struct PlacedGain {
     pub places: GainPlaces,
     pub positions: Positions,

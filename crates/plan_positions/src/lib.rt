@@ -1,5 +1,7 @@
 // The places of all properties of a panel, from the first position on.
 
+#![tactic(auto)]
+
 pub mod counts;
 pub mod gain;
 

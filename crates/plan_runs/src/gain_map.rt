@@ -6,7 +6,7 @@ use crate::{Positions, Run};
 use panel::PropertyPosition;
 
 // The positions of the gain image's properties.
-#[derive(Drop)]
+#[derive(Clone, Copy)]
 pub struct ImagePlaces {
     pub hvcc: Run,
     pub ispe: Run,
@@ -16,20 +16,20 @@ pub struct ImagePlaces {
 }
 
 // The positions of the tone map's properties.
-#[derive(Drop)]
+#[derive(Clone, Copy)]
 pub struct TonePlaces {
     pub ispe: Run,
     pub pixi: Run,
     pub colr: Run,
 }
 
-#[derive(Drop)]
+#[derive(Clone, Copy)]
 pub struct PlacedImage {
     pub places: ImagePlaces,
     pub positions: Positions,
 }
 
-#[derive(Drop)]
+#[derive(Clone, Copy)]
 pub struct PlacedTone {
     pub places: TonePlaces,
     pub positions: Positions,

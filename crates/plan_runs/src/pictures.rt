@@ -6,7 +6,7 @@ use crate::{Positions, Run};
 use panel::PropertyPosition;
 
 // The colour picture's properties.
-#[derive(Drop)]
+#[derive(Clone, Copy)]
 pub struct ColorPlaces {
     pub hvcc: Run,
     pub ispe_tile: Run,
@@ -16,7 +16,7 @@ pub struct ColorPlaces {
 }
 
 // The alpha picture's.
-#[derive(Drop)]
+#[derive(Clone, Copy)]
 pub struct AlphaPlaces {
     pub hvcc: Run,
     pub pixi: Run,
@@ -24,7 +24,7 @@ pub struct AlphaPlaces {
 }
 
 // Those that may be absent.
-#[derive(Drop)]
+#[derive(Clone, Copy)]
 pub struct OptionPlaces {
     pub colr: Run,
     pub irot: Run,
@@ -32,19 +32,19 @@ pub struct OptionPlaces {
     pub clli: Run,
 }
 
-#[derive(Drop)]
+#[derive(Clone, Copy)]
 pub struct PlacedColor {
     pub places: ColorPlaces,
     pub positions: Positions,
 }
 
-#[derive(Drop)]
+#[derive(Clone, Copy)]
 pub struct PlacedAlpha {
     pub places: AlphaPlaces,
     pub positions: Positions,
 }
 
-#[derive(Drop)]
+#[derive(Clone, Copy)]
 pub struct PlacedOptions {
     pub places: OptionPlaces,
     pub positions: Positions,

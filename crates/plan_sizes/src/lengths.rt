@@ -4,7 +4,7 @@ ghost use Rattle.panel.specs.Lent.{Lent};
 ghost use Rattle.plan_sizes.specs.Capped.{Capped, GainMeasured, Measured};
 
 // Of a gain map.
-#[derive(Drop)]
+#[derive(Clone, Copy)]
 pub struct GainLengths {
     pub hvcc: u32,
     pub sample: u32,
@@ -14,7 +14,7 @@ pub struct GainLengths {
 }
 
 // Of a panel.
-#[derive(Drop)]
+#[derive(Clone, Copy)]
 pub struct Lengths {
     pub color_hvcc: u32,
     pub alpha_hvcc: u32,

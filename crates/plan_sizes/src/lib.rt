@@ -2,6 +2,8 @@
 //
 // The sizes of ipco and ipma stand in modules of their names.
 
+#![tactic(auto)]
+
 pub mod ipco;
 pub mod ipma;
 pub mod lengths;
@@ -40,7 +42,7 @@ use plan_runs::Places;
 
 // The whole size of each box, and of the payloads behind the samples. Where a byte part is too long for a file, ipco, iprp, meta, mdat, exif
 // and gain only stand for the true sizes (`Capped`).
-#[derive(Drop)]
+#[derive(Clone, Copy)]
 pub struct Sizes {
     pub ftyp: u32,
     pub iloc: u32,

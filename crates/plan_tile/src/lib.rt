@@ -1,4 +1,6 @@
 // The tile lookup: an item id, and that very part of the lent bytes which is its tile's payload.
+#![tactic(auto)]
+
 ghost use Rattle.std.specs.Prelude.{◌≡◌, ◌+◌, ◌*◌, ◌≤◌, ◌<◌, length, take};
 ghost use Rattle.octets.specs.Numbers.{total};
 ghost use Rattle.plan_tile.specs.Lookup.{names_colour, names_alpha, bad_lists, too_many, lent_tiles, tile_refusal, tile_bytes, span_of, tile_span};
@@ -83,7 +85,7 @@ fn sum_before(lengths: &[u32], k: usize) -> usize
 }
 
 // Where a tile's payload lies, by numbers: in the alpha bytes or else the colour bytes, from `start` on, `size` bytes. Where `refusal` is not 0, all else is 0.
-#[derive(Drop)]
+#[derive(Clone, Copy)]
 pub struct TileSpan {
     pub refusal: u8,
     pub alpha: bool,

@@ -3,6 +3,8 @@
 // src/ has what the Rust writes for values of the same names, with the alpha depth put in where it is another than the colour's, and which
 // part of its files each tile is.
 
+#![tactic(auto)]
+
 mod lookups;
 mod names;
 

@@ -1,5 +1,7 @@
 // Reads one panel sheet from standard input and prints its file, or `refused N`; what became of it is said on standard error, since a
 // program has no exit status of its own. A sheet of more than 12,288 bytes is refused, so one byte more than that is read and no further.
+#![tactic(auto)]
+
 use libc::{STDIN_FILENO, STDOUT_FILENO};
 use program_print::{Printed, print_sheet_file, say, say_failed};
 

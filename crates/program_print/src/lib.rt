@@ -1,4 +1,6 @@
 // Prints the file of a panel sheet, and nothing else, or `refused N` and a line feed; and says on standard error what became of it.
+#![tactic(auto)]
+
 mod words;
 
 use libc::{STDERR_FILENO, STDOUT_FILENO};
@@ -6,7 +8,7 @@ use sheet_file::{SheetAnswer, sheet_file};
 use words::say_refusal;
 
 // What stands on standard output: a whole file, of so many bytes; a refusal, by its number; or not all of either.
-#[derive(Drop)]
+#[derive(Clone, Copy)]
 pub enum Printed {
     File(u64),
     Refusal(u8),

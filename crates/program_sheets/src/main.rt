@@ -1,4 +1,6 @@
 // Prints what each of the sheets in data/ is answered, in the order of the arguments, with a line feed behind each answer.
+#![tactic(auto)]
+
 use libc::STDOUT_FILENO;
 use program_print::{Printed, print_sheet_file};
 

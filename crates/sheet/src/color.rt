@@ -14,7 +14,7 @@ use sheet_fields::{Cursor, Span};
 use sheet_frame::map::Map;
 
 // A colour as it is stated, where its profile lies, and the cursor behind both.
-#[derive(Drop)]
+#[derive(Clone, Copy)]
 pub struct ColorRead {
     pub color: ColorMetadata,
     pub icc: Span,
@@ -22,7 +22,7 @@ pub struct ColorRead {
 }
 
 // An alternate colour, where its profile lies, and the cursor behind both.
-#[derive(Drop)]
+#[derive(Clone, Copy)]
 pub struct AlternateRead {
     pub color: MaybeColorMetadata,
     pub icc: Span,

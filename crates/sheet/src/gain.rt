@@ -15,7 +15,7 @@ use sheet_fields::{Cursor, Span, read_number, read_string};
 use sheet_frame::map::Map;
 
 // The gain map's own fields, and the cursor behind them.
-#[derive(Drop)]
+#[derive(Clone, Copy)]
 pub struct ImageRead {
     pub hvcc: Span,
     pub sample: Span,
@@ -28,7 +28,7 @@ pub struct ImageRead {
 }
 
 // Where the byte parts of a gain map lie.
-#[derive(Drop)]
+#[derive(Clone, Copy)]
 pub struct GainSpans {
     pub hvcc: Span,
     pub sample: Span,
@@ -38,7 +38,7 @@ pub struct GainSpans {
 }
 
 // A gain map, present or not, where its byte parts lie, and the cursor behind it.
-#[derive(Drop)]
+#[derive(Clone, Copy)]
 pub struct GainRead {
     pub gain: MaybeGainMap,
     pub spans: GainSpans,

@@ -1,6 +1,8 @@
 // The panel sheet: a panel as one run of bytes. specs/ holds the definition of what a sheet says, field by field (Sheet); here it is
 // read, numbers by value and byte parts as spans.
 
+#![tactic(auto)]
+
 pub mod color;
 pub mod gain;
 pub mod metadata;
@@ -22,7 +24,7 @@ use sheet_frame::map::read_map;
 use sheet_frame::{at_end, read_dims};
 
 // The numbers of a panel, where its byte parts lie, and the cursor behind all fields.
-#[derive(Drop)]
+#[derive(Clone, Copy)]
 pub struct SheetRead {
     pub panel: Panel,
     pub pictures: PictureSpans,

@@ -15,21 +15,21 @@ use sheet_fields::{Cursor, Span, read_number};
 use sheet_frame::map::Map;
 
 // An orientation, and the cursor behind it.
-#[derive(Drop)]
+#[derive(Clone, Copy)]
 pub struct OrientationRead {
     pub orientation: Orientation,
     pub next: Cursor,
 }
 
 // A light level, present or not, and the cursor behind it.
-#[derive(Drop)]
+#[derive(Clone, Copy)]
 pub struct LightRead {
     pub light: MaybeLightLevel,
     pub next: Cursor,
 }
 
 // Orientation, light level, whether there is Exif and where it lies, and the cursor behind them.
-#[derive(Drop)]
+#[derive(Clone, Copy)]
 pub struct MetadataRead {
     pub metadata: Metadata,
     pub exif: Span,

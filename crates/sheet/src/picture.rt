@@ -7,7 +7,7 @@ ghost use Rattle.sheet.specs.Said.{pictures_of};
 use sheet_fields::{Cursor, Span, read_bytes, read_lengths, read_string};
 
 // Where the parts of both pictures lie, and how many lengths each has.
-#[derive(Drop)]
+#[derive(Clone, Copy)]
 pub struct PictureSpans {
     pub color_hvcc: Span,
     pub alpha_hvcc: Span,
@@ -18,7 +18,7 @@ pub struct PictureSpans {
 }
 
 // Both pictures, and the cursor behind them.
-#[derive(Drop)]
+#[derive(Clone, Copy)]
 pub struct PicturesRead {
     pub spans: PictureSpans,
     pub next: Cursor,

@@ -11,14 +11,14 @@ use panel::fmt::BitDepth;
 use panel_codes::{CodeKind, cicp_named, depth_named, is_code, or_unspecified};
 
 // A depth, and the cursor behind it.
-#[derive(Drop)]
+#[derive(Clone, Copy)]
 pub struct DepthRead {
     pub depth: BitDepth,
     pub next: Cursor,
 }
 
 // A colour, and the cursor behind it.
-#[derive(Drop)]
+#[derive(Clone, Copy)]
 pub struct CicpRead {
     pub cicp: Cicp,
     pub next: Cursor,

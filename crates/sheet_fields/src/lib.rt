@@ -1,5 +1,7 @@
 // The fields of a panel sheet, each read from a cursor on. A reading that has met a refusal stays at it: what is read after that says nothing.
 
+#![tactic(auto)]
+
 pub mod code;
 pub mod optional;
 
@@ -9,35 +11,35 @@ ghost use Rattle.sheet_fields.specs.Fields.{bytes, number, string, words, length
 ghost use Rattle.sheet_fields.specs.Cursor.{span_of, Reads, refused_at};
 
 // How far a sheet is read, and the number of the refusal that was met, 0 while there is none.
-#[derive(Drop)]
+#[derive(Clone, Copy)]
 pub struct Cursor {
     pub at: usize,
     pub refusal: u8,
 }
 
 // Where bytes lie in a sheet.
-#[derive(Drop)]
+#[derive(Clone, Copy)]
 pub struct Span {
     pub at: usize,
     pub size: usize,
 }
 
 // A run of bytes, and the cursor behind it.
-#[derive(Drop)]
+#[derive(Clone, Copy)]
 pub struct BytesRead {
     pub span: Span,
     pub next: Cursor,
 }
 
 // A number, and the cursor behind it.
-#[derive(Drop)]
+#[derive(Clone, Copy)]
 pub struct NumberRead {
     pub value: u32,
     pub next: Cursor,
 }
 
 // How many lengths were read, their sum, and the cursor behind them.
-#[derive(Drop)]
+#[derive(Clone, Copy)]
 pub struct LengthsRead {
     pub count: usize,
     pub sum: usize,

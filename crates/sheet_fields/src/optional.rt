@@ -10,7 +10,7 @@ use panel::part::Part;
 use panel_codes::optional::part_if;
 
 // A byte part, present or not, and the cursor behind it.
-#[derive(Drop)]
+#[derive(Clone, Copy)]
 pub struct PartRead {
     pub part: Part,
     pub span: Span,

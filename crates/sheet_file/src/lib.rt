@@ -1,4 +1,6 @@
 // The call that turns a panel sheet into a file or a refusal.
+#![tactic(auto)]
+
 ghost use Rattle.std.specs.Prelude.{◌≡◌, ◌≤◌, length};
 ghost use Rattle.panel.specs.Of.{panel_of};
 ghost use Rattle.panel.specs.Form.{ordinary};
@@ -14,7 +16,7 @@ use sheet_fields::part;
 use write_file::wrap_hevc_grid_with_alpha;
 
 // What the sheet's call answers: the file's length, or the number of the refusal.
-#[derive(Drop)]
+#[derive(Clone, Copy)]
 pub enum SheetAnswer {
     Length(u64),
     Refused(u8),

@@ -1,5 +1,7 @@
 // What frames the fields of a sheet: the map and the grid at its front, and its end.
 
+#![tactic(auto)]
+
 pub mod map;
 
 ghost use Rattle.std.specs.Prelude.{◌^◌, ◌<◌};
@@ -11,7 +13,7 @@ use panel::GridDims;
 use sheet_fields::{Cursor, left, read_number, refused};
 
 // The grid, and the cursor behind it.
-#[derive(Drop)]
+#[derive(Clone, Copy)]
 pub struct DimsRead {
     pub dims: GridDims,
     pub next: Cursor,

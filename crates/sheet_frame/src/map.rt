@@ -6,7 +6,7 @@ ghost use Rattle.sheet_frame.specs.Map.{map_of, without, bad_map, judged, sheet_
 use sheet_fields::{Cursor, read_number, refused};
 
 // A bool for each bit, the lowest first.
-#[derive(Drop)]
+#[derive(Clone, Copy)]
 pub struct Map {
     pub cicp: bool,
     pub icc: bool,
@@ -20,7 +20,7 @@ pub struct Map {
 }
 
 // A map, and the cursor behind it.
-#[derive(Drop)]
+#[derive(Clone, Copy)]
 pub struct MapRead {
     pub map: Map,
     pub next: Cursor,

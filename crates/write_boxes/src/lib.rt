@@ -2,6 +2,8 @@
 //
 // Each writes at a position of a lent buffer and answers the position behind what it wrote.
 
+#![tactic(auto)]
+
 pub mod ftyp;
 pub mod grpl;
 pub mod hdlr;

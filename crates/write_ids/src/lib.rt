@@ -1,5 +1,7 @@
 // Ids and counts of items as the form of the file has them, and the heads of the boxes that hold them.
 
+#![tactic(auto)]
+
 pub mod form;
 
 ghost use Rattle.std.specs.Prelude.{◌≡◌, ◌+◌, ◌*◌, ◌%◌, ◌≤◌, ◌<◌, length};

@@ -1,5 +1,7 @@
 // iinf: the entries of all items.
 
+#![tactic(auto)]
+
 pub mod gain_map;
 pub mod infe;
 

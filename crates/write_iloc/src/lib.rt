@@ -1,5 +1,7 @@
 // iloc: where each item's payload lies.
 
+#![tactic(auto)]
+
 pub mod gain_map;
 pub mod location;
 
@@ -22,7 +24,7 @@ use plan_items::payloads::PayloadLengths;
 use write_ids::form::{write_count, write_item_box};
 
 // Where the runs of payloads begin: the colour samples, the alpha samples, and what lies behind them.
-#[derive(Drop)]
+#[derive(Clone, Copy)]
 pub struct Offsets {
     pub color: u32,
     pub alpha: u32,

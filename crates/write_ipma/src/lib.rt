@@ -1,5 +1,7 @@
 // ipma: which properties each item has.
 
+#![tactic(auto)]
+
 pub mod association;
 pub mod gain_map;
 

@@ -1,5 +1,7 @@
 // iref: the references of all items.
 
+#![tactic(auto)]
+
 pub mod gain_map;
 pub mod reference;
 

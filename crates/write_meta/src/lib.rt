@@ -1,4 +1,6 @@
 // meta: the boxes of the items, then those of their properties.
+#![tactic(auto)]
+
 ghost use Rattle.std.specs.Prelude.{◌≡◌, [], ◌∷◌, ◌+◌, ◌≤◌, ◌<◌, length};
 ghost use Rattle.octets.specs.Numbers.{◌‖◌, total};
 ghost use Rattle.octets.specs.Boxes.{full, boxes};
