@@ -1,6 +1,5 @@
 -- Each arm answers the code of its variant.
 use mathlib.Core.Path.{sym, ap}
-use borrow.Author.Rules.{rules}
 use Rattle.panel.specs.Types.{matrix_code}
 use Rattle.panel.proofs.color.MatrixCoefficients.code.Goals as goal
 
