@@ -1,0 +1,6 @@
+-- Both codes, as the look-ups say.
+use borrow.Author.Rules.{rules}
+use Rattle.c_numbers.proofs.known.depths_known.Goals as goal
+
+pub returns : goal.returns
+returns c = cc

@@ -1,0 +1,8 @@
+-- Part by part, as the calls answer.
+use borrow.Author.Rules.{rules}
+use Rattle.c_numbers.specs.Values.{panel_value}
+use Rattle.c_numbers.proofs.values.panel_value.Goals as goal
+
+pub returns : goal.returns
+unfolding panel_value
+returns c = cc

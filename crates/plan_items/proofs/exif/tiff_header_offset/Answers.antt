@@ -1,0 +1,15 @@
+-- The marker's six bytes are the definition's, and the test decides as there.
+use mathlib.Core.Path.{sym, ap, ◌∙◌}
+use mathlib.Core.Bool.{Bool, cond}
+use Prim.Native.Nat.{ℕ}
+use borrow.Author.Rules.{rules}
+use Rattle.heif.specs.Mdat.{tiff_header_offset}
+use Rattle.plan_items.proofs.exif.tiff_header_offset.Goals as goal
+
+pub returns-then-begins_with : goal.returns-then-begins_with
+unfolding tiff_header_offset
+returns-then-begins_with c = ap (λ (b : Bool). cond {A = ℕ} b 6 0) (sym c.if-begins_with.true ∙ c.begins_with.ensures)
+
+pub returns : goal.returns
+unfolding tiff_header_offset
+returns c = ap (λ (b : Bool). cond {A = ℕ} b 6 0) (sym c.if-begins_with.false ∙ c.begins_with.ensures)
