@@ -1,0 +1,10 @@
+-- The head, the kind of colour, and the profile.
+use mathlib.Core.Path.{refl}
+use native.Mathlib.Omega.{arith}
+use borrow.Author.Rules.{rules}
+use Rattle.octets.proofs.Stores.{◌▹◌, boxed, retold}
+use Rattle.write_properties.proofs.colr.write_colr_icc.Goals as goal
+
+pub returns : goal.returns
+returns c =
+    retold (boxed "colr" c.write_box-a.ensures (c.put-b.ensures ▹ c.put.ensures) (omega (arith, c.size_of.ensures))) refl (omega arith)

@@ -1,0 +1,9 @@
+-- The head, then the two sizes.
+use mathlib.Core.Path.{refl}
+use borrow.Author.Rules.{rules}
+use Rattle.octets.proofs.Stores.{◌▹◌, full_boxed}
+use Rattle.write_properties.proofs.ispe.write_ispe.Goals as goal
+
+pub returns : goal.returns
+returns c =
+    full_boxed "ispe" 0 0 c.write_fullbox-a.ensures (c.w32-b.ensures ▹ c.w32.ensures) refl
