@@ -1,0 +1,8 @@
+-- The brand, the version, the brand again, and two that every file has.
+use borrow.Author.Rules.{rules}
+use Rattle.octets.proofs.Stores.{◌▹◌}
+use Rattle.write_boxes.proofs.ftyp.write_brands.Goals as goal
+
+pub returns : goal.returns
+returns c =
+    c.write_brand-a.ensures ▹ c.w32-b.ensures ▹ c.write_brand-c.ensures ▹ c.put.ensures

@@ -1,0 +1,8 @@
+-- The offset in four bytes, and the Exif bytes behind it.
+use borrow.Author.Rules.{rules}
+use Rattle.octets.proofs.Stores.{◌▹◌}
+use Rattle.write_boxes.proofs.mdat.write_exif_data_block.Goals as goal
+
+pub returns : goal.returns
+returns c =
+    rw (← c.tiff_header_offset-offset.ensures) (c.w32-a.ensures ▹ c.put.ensures)
