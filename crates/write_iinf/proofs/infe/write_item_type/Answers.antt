@@ -1,0 +1,10 @@
+-- Four fields.
+use mathlib.Core.Path.{refl}
+use native.Mathlib.Omega.{arith}
+use borrow.Author.Rules.{rules}
+use Rattle.octets.proofs.Stores.{◌▹◌, told}
+use Rattle.write_iinf.proofs.infe.write_item_type.Goals as goal
+
+pub returns : goal.returns
+returns c =
+    told (c.w16-a.ensures ▹ c.put-b.ensures ▹ c.w8-c.ensures ▹ c.put.ensures) refl (omega arith)
