@@ -1,0 +1,12 @@
+-- An id and 19 bytes for each item.
+use mathlib.Core.Path.{ap}
+use Prim.Native.Nat.{ℕ, ◌*◌}
+use native.Mathlib.Omega.{arith}
+use borrow.Author.Rules.{rules}
+use Rattle.panel.specs.Form.{form_of}
+use Rattle.plan_sizes.proofs.iinf_size.Goals as goal
+
+pub returns : goal.returns
+returns c =
+    let k = (form_of c.args.form).id in
+    omega (arith, c.when.ensures.value, c.ids_bytes.ensures.value, c.count_bytes.ensures.value, c.last_id-n.ensures.value, ap (λ (n : ℕ). k * n) c.last_id-n.ensures.value)

@@ -1,0 +1,8 @@
+-- Three runs.
+use borrow.Author.Rules.{rules}
+use Rattle.octets.proofs.Stores.{◌▹◌}
+use Rattle.write_ipma_lists.proofs.run.write_runs.Goals as goal
+
+pub returns : goal.returns
+returns c =
+    c.write_run-a.ensures ▹ c.write_run-b.ensures ▹ c.write_run.ensures
