@@ -2,14 +2,12 @@
 use native.Mathlib.Omega.{arith}
 use borrow.Author.Rules.{rules}
 use Rattle.plan_layout.proofs.Exact.{as_lengths}
-use Rattle.plan_layout.proofs.placed.Statement.{statement}
-use Rattle.plan_layout.proofs.placed.Tie as tie
+use Rattle.plan_layout.proofs.placed.Goals as goal
 
-returns : tie.Need-returns
+pub returns : goal.returns
 returns c =
-    let start = c.before.before.before.before.before.before.before.before in
     λ f p g.
-    let x = as_lengths f p start.args.z g.even g.sized start.requires.file in
+    let x = as_lengths f p c.args.z g.even g.sized c.requires.file in
     record {
       items = g.items;
       grid = g.grid;
@@ -31,6 +29,3 @@ returns c =
       color_rext = g.color_rext;
       gain_rext = g.gain_rext;
     }
-
-pub placed-spec : {M : Type 1} → statement M
-placed-spec = tie.close (tie.spec (λ c. search rules) (λ c. search rules) (λ c. search rules) (λ c. search rules) (λ c. search rules) (λ c. search rules) (λ c. search rules) (λ c. search rules) (λ c. search rules) (λ c. search rules) (λ c. search rules) (λ c. search rules) (λ c. search rules) returns)
