@@ -1,0 +1,21 @@
+-- By the form: in the ordinary one, the lower 16 bits of the id, which is what `be 2` writes.
+use mathlib.Core.Path.{refl, ap}
+use mathlib.Core.List.{List}
+use Prim.Native.Nat.{ℕ}
+use native.Mathlib.Omega.{arith}
+use borrow.Author.Rules.{rules}
+use Rattle.octets.specs.Numbers.{◌‖◌, be}
+use Rattle.octets.proofs.Stores.{told}
+use Rattle.panel.specs.Form.{Form}
+use Rattle.panel.proofs.Form.{only-ordinary}
+use Rattle.write_ids.proofs.Forms.{narrowed}
+use Rattle.write_ipma.proofs.association.write_association_head.Goals as goal
+
+pub write_ordinary_head-requires : goal.write_ordinary_head-requires
+write_ordinary_head-requires c =
+    omega (arith, ap (λ (f : Form). f.id) (only-ordinary c.args.form))
+
+pub returns : goal.returns
+returns c =
+    let id = narrowed c.args.id.0 c.ordinary_id.ensures in
+    rw (only-ordinary c.args.form) (told c.write_ordinary_head.ensures (ap (λ (x : List ℕ). x ‖ be 1 c.args.count) id) refl)
