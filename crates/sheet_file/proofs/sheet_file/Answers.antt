@@ -1,0 +1,7 @@
+-- Too long, or not.
+use borrow.Author.Rules.{rules}
+use Rattle.sheet_file.proofs.Promises.{too_long}
+use Rattle.sheet_file.proofs.sheet_file.Goals as goal
+
+pub returns-then-sheet-gt12288 : goal.returns-then-sheet-gt12288
+returns-then-sheet-gt12288 c = too_long _ c.if-sheet-gt12288.true
