@@ -1,0 +1,6 @@
+-- The span's numbers, each as it is but for yes and no.
+use borrow.Author.Rules.{rules}
+use Rattle.kahopiru.proofs.tile.kahopiru_tile.Goals as goal
+
+pub returns : goal.returns
+returns c = cc
