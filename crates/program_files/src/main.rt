@@ -10,7 +10,6 @@ mod names;
 
 use crate::lookups::print_lookups;
 use crate::names::write_names;
-use libc::STDOUT_FILENO;
 use panel::color::{
     Cicp, ColorMetadata, MatrixCoefficients, MaybeCicp, MaybeColorMetadata, Primaries,
     TransferFunction,
@@ -20,6 +19,7 @@ use panel::gain_map::{EncodedGainMap, MaybeGainMap};
 use panel::metadata::{ContentLightLevel, MaybeLightLevel, Metadata, Orientation};
 use panel::part::Part;
 use panel::{GridDims, Panel};
+use std::io;
 use write_file::wrap_hevc_grid_with_alpha;
 
 // The colour of the picture and of its alternate, by code points and by a profile.
@@ -79,7 +79,7 @@ fn full() -> Panel {
 }
 
 // Writes the panel with every part, and the four bytes of the output behind its file.
-fn write_full() {
+fn write_full(rt: &impl Print) -> io::Result<()> {
     let mut out = [0xEEu8; 1186];
     wrap_hevc_grid_with_alpha(
         full(),
@@ -98,11 +98,11 @@ fn write_full() {
         &[0x61, 0x62],
         &mut out,
     );
-    io::write_all(STDOUT_FILENO, &out);
+    rt.write_all(&out)
 }
 
-fn main() {
-    write_names();
-    write_full();
-    print_lookups();
+fn main(rt: HostRuntime) -> io::Result<()> {
+    write_names(&rt)?;
+    write_full(&rt)?;
+    print_lookups(&rt)
 }

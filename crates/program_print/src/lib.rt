@@ -3,9 +3,12 @@
 
 mod words;
 
-use libc::{STDERR_FILENO, STDOUT_FILENO};
+ghost use Rattle.std.specs.Prelude.{◌≤◌, length, IfOk};
+
 use sheet_file::{SheetAnswer, sheet_file};
-use words::say_refusal;
+use std::io;
+use std::io::Read;
+use words::words_of;
 
 // What stands on standard output: a whole file, of so many bytes; a refusal, by its number; or not all of either.
 #[derive(Clone, Copy)]
@@ -15,21 +18,34 @@ pub enum Printed {
     Cut,
 }
 
+// Fills the room from its front until it is full or the input ends, and answers how many bytes were read.
+pub fn read_full(input: &mut impl Read, room: &mut [u8]) -> io::Result<usize>
+    ensures within { IfOk result (λ n. n ≤ length room.new) }
+{
+    let mut n = 0;
+    while n < room.len() {
+        let more = input.read(&mut room[n..])?;
+        if more == 0 {
+            break;
+        }
+        n += more;
+    }
+    Ok(n)
+}
+
 // Prints so many bytes of the room, and answers whether all of them were taken. A file is never longer than the room that it was written
 // into.
-fn print_file(room: &[u8], size: u64) -> bool {
+fn print_file(rt: &impl Print, room: &[u8], size: u64) -> bool {
     let n = size as usize;
     if n <= room.len() {
-        return io::write_all(STDOUT_FILENO, &room[0..n]);
+        return rt.write_all(&room[0..n]).is_ok();
     }
     false
 }
 
 // Prints the number of a refusal, and answers whether all of it was taken.
-fn print_refusal(number: u8) -> bool {
-    io::write_all(STDOUT_FILENO, b"refused ")
-        && io::print_decimal(STDOUT_FILENO, number as u64)
-        && io::write_all(STDOUT_FILENO, b"\n")
+fn print_refusal(rt: &impl Print, number: u8) -> bool {
+    println!(rt; "refused {number}").is_ok()
 }
 
 // What was printed, if it was printed whole.
@@ -38,33 +54,32 @@ fn if_whole(whole: bool, printed: Printed) -> Printed {
 }
 
 // Prints what a sheet is answered, with room for a file of 32,768 bytes.
-pub fn print_sheet_file(sheet: &[u8]) -> Printed {
+pub fn print_sheet_file(rt: &impl Print, sheet: &[u8]) -> Printed {
     let mut room = [0u8; 32768];
     match sheet_file(sheet, &mut room) {
-        SheetAnswer::Length(size) => if_whole(print_file(&room, size), Printed::File(size)),
-        SheetAnswer::Refused(number) => if_whole(print_refusal(number), Printed::Refusal(number)),
+        SheetAnswer::Length(size) => if_whole(print_file(rt, &room, size), Printed::File(size)),
+        SheetAnswer::Refused(number) => {
+            if_whole(print_refusal(rt, number), Printed::Refusal(number))
+        }
     }
-}
-
-// Says on standard error that a file of so many bytes was written.
-fn say_written(size: u64) {
-    io::write_all(STDERR_FILENO, b"written ");
-    io::print_decimal(STDERR_FILENO, size);
-    io::write_all(STDERR_FILENO, b" bytes\n");
 }
 
 // Says on standard error what became of a sheet, in one line that begins with `written`, `refused` or `failed`.
-pub fn say(printed: Printed) {
+pub fn say(rt: &impl Eprint, printed: Printed) -> io::Result<()> {
     match printed {
-        Printed::File(size) => say_written(size),
-        Printed::Refusal(number) => say_refusal(number),
-        Printed::Cut => say_failed(b"not all of it could be written"),
+        Printed::File(size) => eprintln!(rt; "written {size} bytes"),
+        Printed::Refusal(number) => say_refusal(rt, number),
+        Printed::Cut => say_failed(rt, "not all of it could be written"),
     }
 }
 
+// Says on standard error that the sheet is refused, with the number and what it means.
+fn say_refusal(rt: &impl Eprint, number: u8) -> io::Result<()> {
+    let words = words_of(number);
+    eprintln!(rt; "refused {number}: {words}")
+}
+
 // Says on standard error that something failed, and what.
-pub fn say_failed(what: &[u8]) {
-    io::write_all(STDERR_FILENO, b"failed: ");
-    io::write_all(STDERR_FILENO, what);
-    io::write_all(STDERR_FILENO, b"\n");
+pub fn say_failed(rt: &impl Eprint, what: &str) -> io::Result<()> {
+    eprintln!(rt; "failed: {what}")
 }

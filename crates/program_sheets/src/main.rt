@@ -1,8 +1,9 @@
 // Prints what each of the sheets in data/ is answered, in the order of the arguments, with a line feed behind each answer.
 #![tactic(auto)]
 
-use libc::STDOUT_FILENO;
-use program_print::{Printed, print_sheet_file};
+use program_print::{Printed, print_sheet_file, read_full};
+use std::fs::File;
+use std::{env, io};
 
 // Whether what a sheet is answered stands on standard output, whole.
 fn is_whole(printed: Printed) -> bool {
@@ -12,27 +13,23 @@ fn is_whole(printed: Printed) -> bool {
     }
 }
 
-// Prints what the sheet that an argument names is answered; false where there is none, or where not all of it could be printed.
-fn run(i: usize) -> bool {
-    let mut path = [0u8; 64];
-    let length = os::arg(i, &mut path);
-    if os::errno() != 0 {
-        return false;
-    }
-    let file = os::open_read(&path[..length]);
-    if file < 0 {
-        return false;
-    }
+// Prints what the sheet in a file is answered; false where not all of it could be printed.
+fn run(rt: &HostRuntime, path: &str) -> io::Result<bool> {
     let mut input = [0u8; 12289];
-    let n = io::read_full(file, &mut input);
-    libc::close(file);
-    let printed = print_sheet_file(&input[..n]);
-    is_whole(printed) && io::write_all(STDOUT_FILENO, b"\n")
+    let mut file = File::open(rt, path)?;
+    let n = read_full(&mut file, &mut input)?;
+    if !is_whole(print_sheet_file(rt, &input[..n])) {
+        return Ok(false);
+    }
+    println!(rt)?;
+    Ok(true)
 }
 
-fn main() {
-    let mut i = 1;
-    while i < 100 && run(i) {
-        i += 1;
+fn main(rt: HostRuntime) -> io::Result<()> {
+    for path in env::args(&rt)?.skip(1) {
+        if !run(&rt, path.as_str())? {
+            break;
+        }
     }
+    Ok(())
 }
