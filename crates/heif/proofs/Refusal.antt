@@ -12,7 +12,7 @@ use Rattle.panel.specs.Panel.{Panel}
 use Rattle.panel.specs.Form.{Form, ordinary}
 use Rattle.panel.specs.declared.Shape.{Shape}
 use Rattle.heif.specs.Items.{shape, last_id, Even}
-use Rattle.heif.specs.File.{file, size}
+use Rattle.heif.specs.File.{file}
 use Rattle.heif.specs.Refusal.{bad_side, bad_grid, differ, bad_counts, bad_sum, bad_id, bad_items, too_long, refusal}
 
 pub record Accepted (f : Form) (p : Panel) : Type 0 where

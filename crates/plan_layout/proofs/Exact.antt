@@ -16,7 +16,7 @@ use Rattle.heif.specs.Iprp.{iprp, iprp_size}
 use Rattle.heif.specs.Idat.{idat}
 use Rattle.heif.specs.Meta.{meta, meta_size}
 use Rattle.heif.specs.Mdat.{mdat, exif_size, mdat_size}
-use Rattle.heif.specs.File.{data_at, file}
+use Rattle.heif.specs.File.{data_at}
 use Rattle.heif.proofs.Refusal.{Accepted, even-accepted}
 use Rattle.heif.proofs.Iloc.{length-iloc}
 use Rattle.heif.proofs.Iinf.{length-iinf}

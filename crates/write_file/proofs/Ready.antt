@@ -15,12 +15,11 @@ use Rattle.panel.specs.declared.Panel.{Panel as Numbers}
 use Rattle.panel.specs.declared.Shape.{Shape}
 use Rattle.panel.specs.declared.GridDims.{GridDims}
 use Rattle.heif.specs.Items.{shape, Even}
-use Rattle.heif.specs.Ipco.{slots, ipco}
+use Rattle.heif.specs.Ipco.{slots}
 use Rattle.heif.specs.Ipma.{positions, associations, ipma, ipma_size}
 use Rattle.heif.specs.Hvcc.{rext}
 use Rattle.heif.specs.Ftyp.{gain_rext, ftyp_size}
 use Rattle.heif.specs.File.{data_at, file, size}
-use Rattle.heif.specs.Iprp.{iprp}
 use Rattle.heif.specs.Idat.{idat_size}
 use Rattle.heif.specs.Iloc.{iloc_size}
 use Rattle.heif.specs.Iinf.{iinf_size}

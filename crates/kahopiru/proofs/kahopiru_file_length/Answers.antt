@@ -1,5 +1,4 @@
 -- Where each code stands for something, the answer of the length call; else 13.
-use borrow.Author.Tests.{not-true, not-false}
 use Rattle.kahopiru.proofs.Calls.{unmeasured, measured}
 use Rattle.kahopiru.proofs.kahopiru_file_length.Goals as goal
 

@@ -1,6 +1,4 @@
 -- Where each code stands for something, what the writing call promises; else 13, and the output as it was.
-use borrow.Author.Rules.{rules}
-use borrow.Author.Tests.{not-true, not-false}
 use Rattle.kahopiru.proofs.Calls.{unwritten, written}
 use Rattle.kahopiru.proofs.kahopiru_write.Goals as goal
 

@@ -1,5 +1,4 @@
 -- By what is answered.
-use borrow.Author.Rules.{rules}
 use Rattle.kahopiru.proofs.tell.Goals as goal
 
 pub returns-in-Length : goal.returns-in-Length

@@ -1,6 +1,5 @@
 -- Code by code: the chain of the definition goes on where the code names a value, and ends where it does not.
 use mathlib.Core.Path.{refl}
-use borrow.Author.Rules.{rules}
 use Rattle.panel.specs.Types.{maybe_primaries, maybe_transfer, maybe_matrix}
 use Rattle.panel_codes.specs.Codes.{maybe_bool, cicp_named}
 use Rattle.panel_codes.proofs.Chain.{goes_on, ends, so}

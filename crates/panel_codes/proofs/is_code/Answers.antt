@@ -1,6 +1,5 @@
 -- Kind by kind: the look-up of that kind tells whether a value has the code.
 use mathlib.Core.Path.{ap, ◌∙◌}
-use borrow.Author.Rules.{rules}
 use Rattle.panel.specs.Parts.{has}
 use Rattle.panel_codes.proofs.is_code.Goals as goal
 

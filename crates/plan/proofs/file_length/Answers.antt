@@ -1,5 +1,4 @@
 -- What `form_length` answers in the ordinary form.
-use borrow.Author.Rules.{rules}
 use Rattle.panel.specs.Form.{form_of}
 use Rattle.plan.proofs.file_length.Goals as goal
 

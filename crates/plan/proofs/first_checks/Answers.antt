@@ -2,7 +2,6 @@
 use mathlib.Core.Path.{sym, ap, ◌∙◌}
 use native.Mathlib.Omega.{arith}
 use lib.ListN.{length}
-use borrow.Author.Rules.{rules}
 use Rattle.plan.proofs.Answers.{few, stop_1, stop_2, stop_3, stop_4}
 use Rattle.plan.proofs.first_checks.Goals as goal
 

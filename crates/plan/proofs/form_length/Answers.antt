@@ -1,5 +1,4 @@
 -- By the plan: a refusal is passed on, and a plan that is made has the length.
-use borrow.Author.Rules.{rules}
 use Rattle.plan.proofs.Answers.{made-length}
 use Rattle.plan.proofs.form_length.Goals as goal
 

@@ -1,6 +1,5 @@
 -- The first checks, and where they pass, the sizes of the boxes make the file.
 use mathlib.Core.Path.{refl}
-use borrow.Author.Rules.{rules}
 use Rattle.panel.specs.Lent.{lent}
 use Rattle.panel.proofs.Widths.{fits}
 use Rattle.plan.proofs.Answers.{stop_5, room, given, accepted}

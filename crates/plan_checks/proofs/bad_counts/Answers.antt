@@ -1,7 +1,6 @@
 -- The first count that differs, or the second.
 use mathlib.Core.Path.{ap}
 use mathlib.Core.Bool.{not}
-use borrow.Author.Rules.{rules}
 use borrow.Author.Tests.{eq-eqb, ne_eqb}
 use Rattle.octets.proofs.Tests.{or_here, or-next}
 use Rattle.plan_checks.proofs.bad_counts.Goals as goal

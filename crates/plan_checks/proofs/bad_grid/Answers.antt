@@ -1,6 +1,5 @@
 -- The first side that is bad, or the second.
 use mathlib.Core.Path.{sym, ◌∙◌}
-use borrow.Author.Rules.{rules}
 use Rattle.octets.proofs.Tests.{or_here, or-next}
 use Rattle.plan_checks.proofs.bad_grid.Goals as goal
 

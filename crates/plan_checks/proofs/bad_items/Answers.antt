@@ -1,6 +1,5 @@
 -- The last id, or else the tiles.
 use mathlib.Core.Path.{sym, ◌∙◌}
-use borrow.Author.Rules.{rules}
 use Rattle.octets.proofs.Tests.{or_here, or-next}
 use Rattle.plan_checks.proofs.bad_items.Goals as goal
 

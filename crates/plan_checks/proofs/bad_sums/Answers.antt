@@ -1,7 +1,6 @@
 -- The first sum that differs, or the second.
 use mathlib.Core.Path.{sym, ap, ◌∙◌}
 use mathlib.Core.Bool.{not}
-use borrow.Author.Rules.{rules}
 use Rattle.octets.proofs.Tests.{or_here, or-next}
 use Rattle.plan_checks.proofs.bad_sums.Goals as goal
 

@@ -1,14 +1,8 @@
 -- What is added and what is left make the sum; a term above what is missing makes it too large.
-use mathlib.Core.Path.{◌≡◌, sym, ap}
-use Prim.Native.Nat.{ℕ, ◌+◌, ◌-◌, ◌≤◌, ◌<◌}
-use native.Mathlib.Omega.{arith}
-use lib.Dec.{eqb}
+use mathlib.Core.Path.{◌≡◌}
+use Prim.Native.Nat.{◌+◌, ◌-◌, ◌≤◌}
 use lib.ListN.{length, drop}
-use borrow.Author.Rules.{rules}
-use borrow.Author.Tests.{ne_eqb}
 use Rattle.octets.specs.Numbers.{total}
-use Rattle.octets.proofs.Lists.{total_left}
-use Rattle.plan_checks.proofs.Tests.{total-none}
 use Rattle.plan_checks.proofs.sums_to.Given as goal
 
 abbrev pub invariant-loop-i : goal.invariant-loop-i

@@ -1,6 +1,5 @@
 -- ftyp, meta and mdat.
 use native.Mathlib.Omega.{arith}
-use borrow.Author.Rules.{rules}
 use Rattle.plan_layout.proofs.file_size.Goals as goal
 
 pub returns : goal.returns

@@ -1,6 +1,5 @@
 -- Sizes that make a file are lengths, and the data lie behind ftyp, meta and the head of mdat.
 use native.Mathlib.Omega.{arith}
-use borrow.Author.Rules.{rules}
 use Rattle.plan_layout.proofs.Exact.{as_lengths}
 use Rattle.plan_layout.proofs.placed.Goals as goal
 

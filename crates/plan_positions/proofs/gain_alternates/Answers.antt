@@ -1,6 +1,5 @@
 -- Nothing, or what stands beside the tone map.
 use native.Mathlib.Omega.{arith}
-use borrow.Author.Rules.{rules}
 use Rattle.plan_positions.proofs.gain_alternates.Goals as goal
 
 pub returns-in-None : goal.returns-in-None

@@ -1,7 +1,6 @@
 -- One box of each kind and the alternate colours, or none.
 use mathlib.Core.Path.{ap, ◌∙◌}
 use native.Mathlib.Omega.{arith}
-use borrow.Author.Rules.{rules}
 use Rattle.plan_positions.specs.Gain.{gain_at, behind_gain}
 use Rattle.plan_positions.specs.declared.gain.GainPlaces.{GainPlaces}
 use Rattle.plan_positions.proofs.Roles.{narrow-image, narrow-tone}

@@ -2,7 +2,6 @@
 use mathlib.Core.Path.{◌∙◌}
 use Prim.Native.Nat.{◌+◌}
 use native.Mathlib.Omega.{arith}
-use borrow.Author.Rules.{rules}
 use Rattle.plan_runs.specs.Pictures.{options_at}
 use Rattle.plan_positions.proofs.Roles.{narrow-options}
 use Rattle.plan_positions.proofs.panel_options.Goals as goal

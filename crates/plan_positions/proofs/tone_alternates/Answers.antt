@@ -1,6 +1,5 @@
 -- Nothing, or the alternate colour.
 use native.Mathlib.Omega.{arith}
-use borrow.Author.Rules.{rules}
 use Rattle.plan_positions.proofs.tone_alternates.Goals as goal
 
 pub returns-in-Absent : goal.returns-in-Absent

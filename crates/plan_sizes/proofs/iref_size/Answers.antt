@@ -3,7 +3,6 @@ use mathlib.Core.Path.{◌≡◌, ap, ◌∙◌}
 use mathlib.Core.Bool.{cond}
 use Prim.Native.Nat.{ℕ, ◌+◌, ◌*◌}
 use native.Mathlib.Omega.{arith}
-use borrow.Author.Rules.{rules}
 use Rattle.panel.specs.Form.{form_of}
 use Rattle.heif.specs.Iref.{reference_size}
 use Rattle.plan_sizes.proofs.iref_size.Goals as goal

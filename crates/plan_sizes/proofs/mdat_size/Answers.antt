@@ -1,7 +1,6 @@
 -- The sum of the payloads.
 use mathlib.Core.Path.{refl}
 use native.Mathlib.Omega.{arith}
-use borrow.Author.Rules.{rules}
 use Rattle.plan_sizes.proofs.Caps.{◌⊕◌, exact, renamed, together}
 use Rattle.plan_sizes.proofs.mdat_size.Goals as goal
 

@@ -3,7 +3,6 @@ use mathlib.Core.Path.{◌≡◌, refl, ap, ◌∙◌}
 use mathlib.Core.Bool.{Bool, cond}
 use mathlib.Core.List.{List}
 use Prim.Native.Nat.{ℕ}
-use borrow.Author.Rules.{rules}
 use Rattle.panel.specs.Parts.{has, long}
 use Rattle.panel.specs.Of.{part}
 use Rattle.panel.specs.declared.part.Part.{Part}

@@ -1,5 +1,4 @@
 -- The second test where the first holds, else no.
-use borrow.Author.Rules.{rules}
 use borrow.Author.Tests.{le-leb, lt-leb}
 use Rattle.octets.proofs.Tests.{and_here, and-next}
 use Rattle.plan_tile.proofs.names_alpha.Goals as goal

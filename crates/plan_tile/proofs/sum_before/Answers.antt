@@ -1,6 +1,6 @@
 -- What is added after i turns is the sum of the first i lengths.
 use mathlib.Core.Path.{◌≡◌, ap, ◌∙◌}
-use Prim.Native.Nat.{ℕ, ◌+◌, ◌-◌, ◌≤◌}
+use Prim.Native.Nat.{ℕ, ◌+◌}
 use native.Mathlib.Omega.{arith}
 use lib.ListN.{take}
 use borrow.Author.Rules.{rules}

@@ -1,11 +1,8 @@
 -- What is added after i turns is the sum of the first i lengths.
-use mathlib.Core.Path.{◌≡◌, ap, ◌∙◌}
-use Prim.Native.Nat.{ℕ, ◌+◌, ◌-◌, ◌≤◌}
-use native.Mathlib.Omega.{arith}
+use mathlib.Core.Path.{◌≡◌}
+use Prim.Native.Nat.{◌-◌, ◌≤◌}
 use lib.ListN.{take}
-use borrow.Author.Rules.{rules}
 use Rattle.octets.specs.Numbers.{total}
-use Rattle.octets.proofs.Lists.{total-step, total-take}
 use Rattle.plan_tile.proofs.sum_before.Given as goal
 
 abbrev pub invariant-loop-i : goal.invariant-loop-i

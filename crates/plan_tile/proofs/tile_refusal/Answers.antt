@@ -1,6 +1,5 @@
 -- Each check that refuses answers its number, and where none does the answer is 0.
 use mathlib.Core.Path.{sym, ◌∙◌}
-use borrow.Author.Rules.{rules}
 use Rattle.octets.proofs.Tests.{or_here, or-next}
 use Rattle.plan_tile.specs.Lookup.{lent_tiles}
 use Rattle.plan_tile.proofs.Answers.{few, stop_2, stop_3, stop_4, stop_7, accept}

@@ -1,5 +1,4 @@
 -- Section by section, to the end.
-use borrow.Author.Rules.{rules}
 use Rattle.octets.proofs.Numbers.{below}
 use Rattle.sheet_fields.proofs.Reading.{goes_on, as_well}
 use Rattle.sheet.specs.Sheet.{fields}

@@ -1,7 +1,6 @@
 -- What lies behind the position, if anything does.
 use native.Mathlib.Omega.{arith}
 use lib.ListN.{length-drop}
-use borrow.Author.Rules.{rules}
 use Rattle.sheet_fields.proofs.left.Goals as goal
 
 pub returns-then-sheet-at : goal.returns-then-sheet-at

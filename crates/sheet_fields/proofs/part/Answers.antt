@@ -4,7 +4,6 @@ use Prim.Native.Nat.{◌+◌, ◌-◌, ◌≤◌}
 use native.Mathlib.Omega.{arith}
 use lib.ListN.{length, take, drop, drop_of_length-le, length-drop}
 use lib.Seq.{take-nil, take_all}
-use borrow.Author.Rules.{rules}
 use Rattle.sheet_fields.proofs.part.Goals as goal
 
 pub returns-then-sheet-at : goal.returns-then-sheet-at

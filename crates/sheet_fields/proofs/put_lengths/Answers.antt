@@ -1,11 +1,8 @@
 -- Length by length: so far the front of the list.
 use mathlib.Core.Path.{◌≡◌, ◌∙◌}
-use Prim.Native.Nat.{◌≤◌, ◌<◌, ◌-◌, ◌*◌}
+use Prim.Native.Nat.{◌<◌}
 use native.Mathlib.Omega.{arith}
-use lib.ListN.{length, take, length-set}
-use borrow.Author.Rules.{rules}
-use Rattle.octets.specs.Numbers.{total}
-use Rattle.sheet_fields.specs.Fields.{words}
+use lib.ListN.{length, length-set}
 use Rattle.sheet_fields.proofs.Values.{words-put, words-sum}
 use Rattle.sheet_fields.proofs.put_lengths.Goals as goal
 

@@ -1,12 +1,9 @@
 -- Length by length: so far the front of the list.
-use mathlib.Core.Path.{◌≡◌, ◌∙◌}
-use Prim.Native.Nat.{◌≤◌, ◌<◌, ◌-◌, ◌*◌}
-use native.Mathlib.Omega.{arith}
-use lib.ListN.{length, take, length-set}
-use borrow.Author.Rules.{rules}
+use mathlib.Core.Path.{◌≡◌}
+use Prim.Native.Nat.{◌≤◌, ◌-◌, ◌*◌}
+use lib.ListN.{length, take}
 use Rattle.octets.specs.Numbers.{total}
 use Rattle.sheet_fields.specs.Fields.{words}
-use Rattle.sheet_fields.proofs.Values.{words-put, words-sum}
 use Rattle.sheet_fields.proofs.put_lengths.Given as goal
 
 abbrev pub invariant-loop-i : goal.invariant-loop-i

@@ -3,7 +3,6 @@ use mathlib.Core.Path.{sym, ap, ◌∙◌}
 use native.Mathlib.Omega.{arith}
 use lib.ListN.{drop, length-drop}
 use lib.Seq.{length-take-le}
-use borrow.Author.Rules.{rules}
 use Rattle.sheet_fields.specs.declared.Cursor.{Cursor}
 use Rattle.sheet_fields.proofs.Reading.{short, enough, never}
 use Rattle.sheet_fields.proofs.read_bytes.Goals as goal

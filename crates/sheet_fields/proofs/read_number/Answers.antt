@@ -3,7 +3,6 @@ use mathlib.Core.Path.{sym, ap, ◌∙◌}
 use Prim.Native.Nat.{◌≤◌}
 use native.Mathlib.Omega.{arith}
 use lib.ListN.{length}
-use borrow.Author.Rules.{rules}
 use Rattle.octets.specs.Numbers.{value}
 use Rattle.sheet_fields.specs.Fields.{number}
 use Rattle.sheet_fields.proofs.Reading.{goes_on, done, as_well, span_size}

@@ -1,5 +1,4 @@
 -- The length, and so many bytes.
-use borrow.Author.Rules.{rules}
 use Rattle.sheet_fields.specs.Fields.{string}
 use Rattle.sheet_fields.proofs.Reading.{goes_on}
 use Rattle.sheet_fields.proofs.read_string.Goals as goal

@@ -1,11 +1,10 @@
 -- Byte by byte: so far the value of the front.
 use mathlib.Core.Path.{◌≡◌, ◌∙◌}
-use Prim.Native.Nat.{◌+◌, ◌≤◌, ◌<◌, ◌-◌, ◌*◌, ◌^◌}
+use Prim.Native.Nat.{◌+◌}
 use native.Mathlib.Omega.{arith}
-use lib.ListN.{length, take, get_or}
+use lib.ListN.{length, get_or}
 use lib.Seq.{take-length}
 use borrow.Author.Rules.{rules}
-use Rattle.octets.specs.Numbers.{value}
 use Rattle.sheet_fields.proofs.Values.{value-step, below_step, within}
 use Rattle.sheet_fields.proofs.value_of.Goals as goal
 

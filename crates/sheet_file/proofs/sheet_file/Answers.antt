@@ -1,5 +1,4 @@
 -- Too long, or not.
-use borrow.Author.Rules.{rules}
 use Rattle.sheet_file.proofs.Promises.{too_long}
 use Rattle.sheet_file.proofs.sheet_file.Goals as goal
 

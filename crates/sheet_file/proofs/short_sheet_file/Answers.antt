@@ -1,7 +1,6 @@
 -- A refusal as the sheet is read, or what the panel is answered.
 use mathlib.Core.Path.{sym}
 use lib.Seq.{length-take-le}
-use borrow.Author.Rules.{rules}
 use Rattle.sheet.specs.Said.{panel_said}
 use Rattle.sheet_file.proofs.Promises.{by-stop, by-file}
 use Rattle.sheet_file.proofs.short_sheet_file.Goals as goal

@@ -1,6 +1,5 @@
 -- By what is answered.
 use mathlib.Core.Path.{sym, ap, ◌∙◌}
-use borrow.Author.Rules.{rules}
 use Rattle.panel.specs.Outcome.{refused, says}
 use Rattle.sheet_file.proofs.tell.Goals as goal
 

@@ -1,5 +1,4 @@
 -- The writing call, with the spans as byte parts.
-use borrow.Author.Rules.{rules}
 use Rattle.panel.specs.Lent.{lent}
 use Rattle.sheet_file.proofs.Promises.{lent_alike, promised_alike}
 use Rattle.sheet_file.proofs.write_panel.Goals as goal

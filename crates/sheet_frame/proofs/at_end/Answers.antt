@@ -1,6 +1,5 @@
 -- Nothing is left, or something is.
 use mathlib.Core.Path.{sym, ◌∙◌}
-use borrow.Author.Rules.{rules}
 use Rattle.sheet_frame.proofs.Frame.{over, finished}
 use Rattle.sheet_frame.proofs.at_end.Goals as goal
 

@@ -1,5 +1,4 @@
 -- Number by number.
-use borrow.Author.Rules.{rules}
 use Rattle.sheet_fields.proofs.Reading.{goes_on, done}
 use Rattle.sheet_frame.specs.Frame.{dims}
 use Rattle.sheet_frame.proofs.read_dims.Goals as goal

@@ -1,5 +1,4 @@
 -- What `wrap_in_form` does in the ordinary form.
-use borrow.Author.Rules.{rules}
 use Rattle.panel.specs.Form.{form_of}
 use Rattle.write_file.proofs.wrap_hevc_grid_with_alpha.Goals as goal
 

@@ -1,5 +1,4 @@
 -- The plan, and where it is made and the output has room, the file.
-use borrow.Author.Rules.{rules}
 use Rattle.write_file.proofs.Promises.{by-refusal, by-room, by_writing}
 use Rattle.write_file.proofs.wrap_in_form.Goals as goal
 

@@ -1,7 +1,6 @@
 -- By the test: all 32 bits of the id, or the lower 16, which is what `be 2` writes.
 use mathlib.Core.Path.{refl}
 use native.Mathlib.Omega.{arith}
-use borrow.Author.Rules.{rules}
 use Rattle.octets.proofs.Stores.{told}
 use Rattle.panel.proofs.Form.{tested}
 use Rattle.write_ids.proofs.Forms.{narrowed}

@@ -1,8 +1,6 @@
 -- Each turn writes one id more.
 use native.Mathlib.Omega.{arith}
-use Rattle.octets.specs.Numbers.{be}
-use Rattle.panel.specs.Form.{form_of}
-use Rattle.write_ids.proofs.Loops.{Turn, begun, room, turned, ended}
+use Rattle.write_ids.proofs.Loops.{begun, room, turned, ended}
 use Rattle.write_ids.proofs.write_ids.Goals as goal
 
 pub loop-left-init : goal.loop-left-init

@@ -3,7 +3,6 @@ use mathlib.Core.Path.{◌≡◌, refl, sym, ap, ◌∙◌}
 use mathlib.Core.Bool.{cond}
 use Prim.Native.Nat.{ℕ, ◌+◌, ◌*◌}
 use native.Mathlib.Omega.{arith}
-use borrow.Author.Rules.{rules}
 use Rattle.octets.specs.Numbers.{be}
 use Rattle.octets.proofs.Lists.{cond-mul}
 use Rattle.octets.proofs.Stores.{◌▹◌, kept, told, retold, ◌▸◌}

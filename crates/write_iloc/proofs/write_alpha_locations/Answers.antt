@@ -2,7 +2,6 @@
 use mathlib.Core.Path.{refl, ap}
 use mathlib.Core.List.{flat_map}
 use Prim.Native.Nat.{ℕ}
-use borrow.Author.Rules.{rules}
 use Rattle.octets.proofs.Stores.{◌▹◌, told}
 use Rattle.panel.specs.Form.{form_of}
 use Rattle.heif.specs.Iloc.{entry, located}

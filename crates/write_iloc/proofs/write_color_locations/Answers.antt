@@ -1,7 +1,6 @@
 -- The tiles' entries and the grid's.
 use mathlib.Core.Path.{refl, ap}
 use Prim.Native.Nat.{ℕ}
-use borrow.Author.Rules.{rules}
 use Rattle.octets.proofs.Stores.{◌▹◌, told}
 use Rattle.panel.specs.Form.{form_of}
 use Rattle.heif.specs.Iloc.{entry}

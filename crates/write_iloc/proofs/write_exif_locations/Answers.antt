@@ -2,7 +2,6 @@
 use mathlib.Core.Path.{refl, ap}
 use Prim.Native.Nat.{ℕ}
 use native.Mathlib.Omega.{arith}
-use borrow.Author.Rules.{rules}
 use Rattle.octets.proofs.Stores.{◌▹◌, kept, told}
 use Rattle.panel.specs.Form.{form_of}
 use Rattle.heif.specs.Iloc.{entry}

@@ -1,7 +1,6 @@
 -- The head, the sizes byte, the count.
 use mathlib.Core.Path.{refl, ap}
 use native.Mathlib.Omega.{arith}
-use borrow.Author.Rules.{rules}
 use Rattle.octets.specs.Numbers.{be}
 use Rattle.octets.proofs.Stores.{◌▹◌, kept, told}
 use Rattle.panel.specs.Form.{form_of}

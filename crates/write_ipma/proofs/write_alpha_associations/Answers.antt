@@ -1,7 +1,6 @@
 -- The tiles' entries, from the first alpha tile on, and the grid's.
 use mathlib.Core.Path.{refl, sym}
 use native.Mathlib.Omega.{arith}
-use borrow.Author.Rules.{rules}
 use Rattle.octets.proofs.Lists.{flat_map-append}
 use Rattle.octets.proofs.Stores.{◌▹◌, told, kept}
 use Rattle.panel.specs.Form.{form_of}

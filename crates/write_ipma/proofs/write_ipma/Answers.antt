@@ -1,7 +1,6 @@
 -- The head, the count, and the entries of both pictures and of the gain map.
 use mathlib.Core.Path.{refl, sym, ap, ◌∙◌}
 use native.Mathlib.Omega.{arith}
-use borrow.Author.Rules.{rules}
 use Rattle.octets.specs.Numbers.{be}
 use Rattle.octets.proofs.Stores.{◌▹◌, kept, told, retold}
 use Rattle.panel.specs.Form.{form_of}

@@ -1,7 +1,6 @@
 -- A reference to the tiles.
 use mathlib.Core.Path.{refl}
 use mathlib.Core.List.{[], ◌∷◌}
-use borrow.Author.Rules.{rules}
 use Rattle.octets.proofs.Stores.{retold}
 use Rattle.panel.specs.Form.{form_of}
 use Rattle.heif.specs.Items.{ids_from}

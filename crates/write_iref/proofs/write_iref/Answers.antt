@@ -3,7 +3,6 @@ use mathlib.Core.Path.{◌≡◌, refl, sym, ◌∙◌}
 use mathlib.Core.Bool.{cond}
 use Prim.Native.Nat.{◌+◌}
 use native.Mathlib.Omega.{arith}
-use borrow.Author.Rules.{rules}
 use Rattle.octets.proofs.Stores.{kept, retold, ◌▸◌}
 use Rattle.panel.specs.Form.{Form, form_of}
 use Rattle.panel.specs.declared.Shape.{Shape}

@@ -1,6 +1,5 @@
 -- The head, ipco and ipma.
 use native.Mathlib.Omega.{arith}
-use borrow.Author.Rules.{rules}
 use Rattle.octets.proofs.Stores.{kept, boxed, ◌▸◌}
 use Rattle.write_meta.proofs.write_iprp.Goals as goal
 

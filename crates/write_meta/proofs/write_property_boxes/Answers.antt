@@ -1,6 +1,5 @@
 -- iprp, the groups and idat.
 use native.Mathlib.Omega.{arith}
-use borrow.Author.Rules.{rules}
 use Rattle.octets.proofs.Stores.{kept, ◌▸◌}
 use Rattle.write_meta.proofs.write_property_boxes.Goals as goal
 

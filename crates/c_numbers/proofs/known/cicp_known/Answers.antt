@@ -1,5 +1,4 @@
 -- Each of the four codes, as the look-ups say.
-use borrow.Author.Rules.{rules}
 use Rattle.c_numbers.proofs.known.cicp_known.Goals as goal
 
 pub returns : goal.returns

@@ -1,5 +1,4 @@
 -- The two bytes, and the code points where they are there.
-use borrow.Author.Rules.{rules}
 use Rattle.c_numbers.proofs.known.color_known.Goals as goal
 
 pub returns : goal.returns

@@ -1,5 +1,4 @@
 -- Both codes, as the look-ups say.
-use borrow.Author.Rules.{rules}
 use Rattle.c_numbers.proofs.known.depths_known.Goals as goal
 
 pub returns : goal.returns

@@ -1,5 +1,4 @@
 -- Part by part, as the calls answer.
-use borrow.Author.Rules.{rules}
 use Rattle.c_numbers.specs.Known.{panel_known}
 use Rattle.c_numbers.proofs.known.panel_known.Goals as goal
 

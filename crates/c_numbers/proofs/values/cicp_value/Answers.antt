@@ -1,5 +1,4 @@
 -- The encoding that is named, or the unspecified one.
-use borrow.Author.Rules.{rules}
 use Rattle.c_numbers.proofs.values.cicp_value.Goals as goal
 
 pub returns : goal.returns

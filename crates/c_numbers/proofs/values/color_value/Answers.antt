@@ -1,5 +1,4 @@
 -- Field by field, as the calls answer.
-use borrow.Author.Rules.{rules}
 use Rattle.c_numbers.proofs.values.color_value.Goals as goal
 
 pub returns : goal.returns

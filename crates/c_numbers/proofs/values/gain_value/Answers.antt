@@ -1,5 +1,4 @@
 -- Field by field, the alternate colour by its own function.
-use borrow.Author.Rules.{rules}
 use Rattle.c_numbers.proofs.values.gain_value.Goals as goal
 
 pub returns : goal.returns

@@ -1,5 +1,4 @@
 -- Orientation, light level and Exif, as the calls answer.
-use borrow.Author.Rules.{rules}
 use Rattle.c_numbers.proofs.values.metadata_value.Goals as goal
 
 pub returns : goal.returns

@@ -1,5 +1,4 @@
 -- Part by part, as the calls answer.
-use borrow.Author.Rules.{rules}
 use Rattle.c_numbers.specs.Values.{panel_value}
 use Rattle.c_numbers.proofs.values.panel_value.Goals as goal
 

@@ -1,6 +1,5 @@
 -- What the sheet's call promises, in numbers.
 use mathlib.Core.Path.{ap, ◌∙◌}
-use borrow.Author.Rules.{rules}
 use Rattle.c_types.specs.Told.{told}
 use Rattle.kahopiru.proofs.sheet_call.kahopiru_sheet.Goals as goal
 

@@ -1,6 +1,5 @@
 -- By what is answered.
 use mathlib.Core.Path.{sym, ap}
-use borrow.Author.Rules.{rules}
 use Rattle.sheet_file.specs.Says.{sheet_says}
 use Rattle.sheet_file.specs.declared.SheetAnswer.{SheetAnswer}
 use Rattle.c_types.specs.Told.{told}

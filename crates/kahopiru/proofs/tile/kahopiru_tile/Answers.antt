@@ -1,5 +1,4 @@
 -- The span's numbers, each as it is but for yes and no.
-use borrow.Author.Rules.{rules}
 use Rattle.kahopiru.proofs.tile.kahopiru_tile.Goals as goal
 
 pub returns : goal.returns

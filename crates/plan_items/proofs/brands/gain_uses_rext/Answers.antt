@@ -1,5 +1,4 @@
 -- By the variant, and the record lent.
-use borrow.Author.Rules.{rules}
 use Rattle.plan_items.proofs.brands.gain_uses_rext.Goals as goal
 
 pub returns-in-Some : goal.returns-in-Some

@@ -1,6 +1,5 @@
 -- A record of fewer than two bytes has no profile.
 use mathlib.Core.Path.{sym}
-use borrow.Author.Rules.{rules}
 use Rattle.plan_items.proofs.Records.{rext-short}
 use Rattle.plan_items.proofs.brands.hvcc_uses_rext.Goals as goal
 

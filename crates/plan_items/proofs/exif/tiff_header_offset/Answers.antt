@@ -2,7 +2,6 @@
 use mathlib.Core.Path.{sym, ap, ◌∙◌}
 use mathlib.Core.Bool.{Bool, cond}
 use Prim.Native.Nat.{ℕ}
-use borrow.Author.Rules.{rules}
 use Rattle.heif.specs.Mdat.{tiff_header_offset}
 use Rattle.plan_items.proofs.exif.tiff_header_offset.Goals as goal
 

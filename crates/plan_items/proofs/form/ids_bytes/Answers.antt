@@ -2,7 +2,6 @@
 use mathlib.Core.Path.{ap}
 use Prim.Native.Nat.{ℕ, ◌*◌}
 use native.Mathlib.Omega.{arith}
-use borrow.Author.Rules.{rules}
 use Rattle.panel.proofs.Form.{tested}
 use Rattle.plan_items.proofs.form.ids_bytes.Goals as goal
 

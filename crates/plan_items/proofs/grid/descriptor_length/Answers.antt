@@ -1,7 +1,6 @@
 -- A wide grid has the longer one.
 use mathlib.Core.Path.{sym, ◌∙◌}
 use native.Mathlib.Omega.{arith}
-use borrow.Author.Rules.{rules}
 use Rattle.plan_items.proofs.grid.descriptor_length.Goals as goal
 
 pub returns-then-is_wide : goal.returns-then-is_wide

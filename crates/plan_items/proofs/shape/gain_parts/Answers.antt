@@ -1,6 +1,5 @@
 -- By the variant; of a gain map, by its part.
 use mathlib.Core.Path.{refl}
-use borrow.Author.Rules.{rules}
 use Rattle.plan_items.proofs.shape.gain_parts.Goals as goal
 
 pub returns-in-Some : goal.returns-in-Some

@@ -1,5 +1,4 @@
 -- By the variant.
-use borrow.Author.Rules.{rules}
 use Rattle.plan_items.proofs.shape.is_present.Goals as goal
 
 pub returns-in-Absent : goal.returns-in-Absent

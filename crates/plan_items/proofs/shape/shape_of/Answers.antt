@@ -1,6 +1,5 @@
 -- Field by field.
 use mathlib.Core.Path.{refl, sym}
-use borrow.Author.Rules.{rules}
 use Rattle.panel.specs.Of.{panel_of}
 use Rattle.plan_items.proofs.shape.shape_of.Goals as goal
 

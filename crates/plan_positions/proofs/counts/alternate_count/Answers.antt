@@ -1,6 +1,5 @@
 -- What it states, or nothing.
 use native.Mathlib.Omega.{arith}
-use borrow.Author.Rules.{rules}
 use Rattle.plan_positions.proofs.counts.alternate_count.Goals as goal
 
 pub returns-in-Some : goal.returns-in-Some

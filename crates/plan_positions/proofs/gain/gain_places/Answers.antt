@@ -1,7 +1,6 @@
 -- The tone map's properties lie behind the gain image's.
 use mathlib.Core.Path.{ap, ◌∙◌}
 use Prim.Native.Nat.{ℕ}
-use borrow.Author.Rules.{rules}
 use Rattle.plan_runs.specs.GainMap.{tone_at, behind_tone}
 use Rattle.plan_positions.proofs.gain.gain_places.Goals as goal
 

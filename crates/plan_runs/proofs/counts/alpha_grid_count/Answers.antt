@@ -1,6 +1,5 @@
 -- The alpha grid: three roles and the transforms.
 use native.Mathlib.Omega.{arith}
-use borrow.Author.Rules.{rules}
 use Rattle.plan_runs.proofs.Lengths.{length-alpha_grid_list}
 use Rattle.plan_runs.proofs.counts.alpha_grid_count.Goals as goal
 

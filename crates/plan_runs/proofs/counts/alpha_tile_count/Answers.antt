@@ -1,6 +1,5 @@
 -- An alpha tile: two roles.
 use native.Mathlib.Omega.{arith}
-use borrow.Author.Rules.{rules}
 use Rattle.plan_runs.proofs.Lengths.{length-alpha_tile_list}
 use Rattle.plan_runs.proofs.counts.alpha_tile_count.Goals as goal
 

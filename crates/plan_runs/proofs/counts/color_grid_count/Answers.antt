@@ -1,6 +1,5 @@
 -- The colour grid: three roles, and those that may be absent.
 use native.Mathlib.Omega.{arith}
-use borrow.Author.Rules.{rules}
 use Rattle.plan_runs.proofs.Lengths.{length-colour_grid_list}
 use Rattle.plan_runs.proofs.counts.color_grid_count.Goals as goal
 

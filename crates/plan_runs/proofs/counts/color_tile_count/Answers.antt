@@ -1,6 +1,5 @@
 -- A colour tile: three roles.
 use native.Mathlib.Omega.{arith}
-use borrow.Author.Rules.{rules}
 use Rattle.plan_runs.proofs.Lengths.{length-colour_tile_list}
 use Rattle.plan_runs.proofs.counts.color_tile_count.Goals as goal
 

@@ -1,6 +1,5 @@
 -- The gain image: five roles and the transforms.
 use native.Mathlib.Omega.{arith}
-use borrow.Author.Rules.{rules}
 use Rattle.plan_runs.proofs.Lengths.{length-image_list}
 use Rattle.plan_runs.proofs.counts.image_count.Goals as goal
 

@@ -1,6 +1,5 @@
 -- The tone map: three roles.
 use native.Mathlib.Omega.{arith}
-use borrow.Author.Rules.{rules}
 use Rattle.plan_runs.proofs.Lengths.{length-tone_list}
 use Rattle.plan_runs.proofs.counts.tone_count.Goals as goal
 

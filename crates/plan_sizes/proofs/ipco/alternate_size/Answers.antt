@@ -1,6 +1,5 @@
 -- What it states, or nothing.
 use native.Mathlib.Omega.{arith}
-use borrow.Author.Rules.{rules}
 use Rattle.plan_sizes.proofs.Caps.{exact}
 use Rattle.plan_sizes.proofs.ipco.alternate_size.Goals as goal
 

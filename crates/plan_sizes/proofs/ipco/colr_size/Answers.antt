@@ -1,6 +1,5 @@
 -- Code points, or what stands for them.
 use native.Mathlib.Omega.{arith}
-use borrow.Author.Rules.{rules}
 use Rattle.plan_sizes.proofs.Caps.{exact}
 use Rattle.plan_sizes.proofs.ipco.colr_size.Goals as goal
 

@@ -1,6 +1,5 @@
 -- Nothing, or five properties and those of the tone map.
 use native.Mathlib.Omega.{arith}
-use borrow.Author.Rules.{rules}
 use Rattle.plan_sizes.proofs.Caps.{◌⊕◌, exact, renamed}
 use Rattle.plan_sizes.proofs.ipco.gain_properties_size.Goals as goal
 

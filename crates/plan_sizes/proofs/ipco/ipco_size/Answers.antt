@@ -2,7 +2,6 @@
 use mathlib.Core.Path.{◌≡◌}
 use Prim.Native.Nat.{◌+◌, ◌*◌}
 use native.Mathlib.Omega.{arith}
-use borrow.Author.Rules.{rules}
 use Rattle.panel.specs.Of.{panel_of}
 use Rattle.plan_positions.proofs.Counted.{irot-placed, imir-placed, clli-placed, all_placed}
 use Rattle.plan_sizes.proofs.Caps.{◌⊕◌, exact, renamed}

@@ -1,7 +1,6 @@
 -- Code points, or the profile.
 use mathlib.Core.Path.{refl}
 use native.Mathlib.Omega.{arith}
-use borrow.Author.Rules.{rules}
 use Rattle.plan_sizes.proofs.Caps.{◌⊕◌, exact, renamed}
 use Rattle.plan_sizes.proofs.ipco.profile_or_unspecified_size.Goals as goal
 

@@ -1,7 +1,6 @@
 -- A profile beside code points, or nothing.
 use mathlib.Core.Path.{refl}
 use native.Mathlib.Omega.{arith}
-use borrow.Author.Rules.{rules}
 use Rattle.octets.proofs.Lists.{cond-mul}
 use Rattle.panel.specs.Parts.{has}
 use Rattle.panel.specs.Of.{part}

@@ -1,7 +1,6 @@
 -- Nothing, or size, depth and the alternate colour.
 use mathlib.Core.Path.{refl}
 use native.Mathlib.Omega.{arith}
-use borrow.Author.Rules.{rules}
 use Rattle.plan_sizes.proofs.Caps.{◌⊕◌, exact, renamed}
 use Rattle.plan_sizes.proofs.ipco.tone_properties_size.Goals as goal
 

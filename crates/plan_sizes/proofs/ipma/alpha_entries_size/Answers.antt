@@ -1,7 +1,6 @@
 -- The tiles' entries and the grid's, by how many properties each names.
 use mathlib.Core.Path.{sym, ◌∙◌}
 use Prim.Native.Nat.{◌+◌, ◌*◌}
-use borrow.Author.Rules.{rules}
 use Rattle.panel.specs.Form.{form_of}
 use Rattle.heif.specs.Items.{alpha_tile, alpha_grid}
 use Rattle.heif.specs.Ipma.{alpha_tile_list, alpha_grid_list, association_size}

@@ -2,7 +2,6 @@
 use Prim.Native.Nat.{◌+◌, ◌≤◌}
 use native.Mathlib.Omega.{arith}
 use native.Mathlib.Nat.{mul-le-mul}
-use borrow.Author.Rules.{rules}
 use Rattle.plan_sizes.proofs.ipma.entries_size.Goals as goal
 
 pub overflow_mul-result : goal.overflow_mul-result

@@ -3,7 +3,6 @@ use mathlib.Core.Path.{◌≡◌, ◌∙◌}
 use mathlib.Core.Bool.{cond}
 use Prim.Native.Nat.{ℕ, ◌+◌}
 use native.Mathlib.Omega.{arith}
-use borrow.Author.Rules.{rules}
 use Rattle.panel.specs.Form.{form_of}
 use Rattle.heif.proofs.Ipma.{length-gain_entries, length-ipma_entries}
 use Rattle.plan_runs.specs.Roles.{its_of}

@@ -1,5 +1,4 @@
 -- Each length is capped.
-use borrow.Author.Rules.{rules}
 use Rattle.plan_sizes.proofs.lengths.lengths_of.Goals as goal
 
 pub returns : goal.returns

@@ -1,6 +1,5 @@
 -- By whether the code points are there.
 use mathlib.Core.Path.{sym, ap, ◌∙◌}
-use borrow.Author.Rules.{rules}
 use Rattle.panel.specs.Of.{part, cicp_of}
 use Rattle.panel.specs.Agreement.{filled}
 use Rattle.sheet.proofs.color.alternate_of.Goals as goal

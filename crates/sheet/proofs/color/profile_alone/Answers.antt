@@ -1,7 +1,6 @@
 -- By whether the profile is there.
 use mathlib.Core.Path.{sym, ap}
 use mathlib.Core.Option.{none}
-use borrow.Author.Rules.{rules}
 use Rattle.panel.specs.Of.{part}
 use Rattle.panel.specs.Agreement.{filled}
 use Rattle.sheet.proofs.color.profile_alone.Goals as goal

@@ -1,6 +1,5 @@
 -- The colour, and whether it states anything.
 use mathlib.Core.Path.{sym}
-use borrow.Author.Rules.{rules}
 use Rattle.sheet_fields.proofs.Reading.{goes_on, done, as_well}
 use Rattle.sheet.specs.Sheet.{alternate}
 use Rattle.sheet.proofs.color.read_alternate.Goals as goal

@@ -1,6 +1,5 @@
 -- The code points, dropped where their bit is off, and the profile.
 use mathlib.Core.Path.{refl}
-use borrow.Author.Rules.{rules}
 use Rattle.panel.specs.Of.{cicp_of}
 use Rattle.panel.specs.declared.color.MaybeCicp.TheVariants as C
 use Rattle.sheet_fields.proofs.Reading.{goes_on, done, stands}

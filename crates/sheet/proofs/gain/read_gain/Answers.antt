@@ -1,6 +1,5 @@
 -- The gain map's own fields, the tone map, the alternate colour; all dropped where the gain map's bit is off.
 use mathlib.Core.Path.{refl}
-use borrow.Author.Rules.{rules}
 use Rattle.panel.specs.declared.gain_map.MaybeGainMap.TheVariants as G
 use Rattle.sheet_fields.proofs.Reading.{goes_on, done, stands}
 use Rattle.sheet.specs.Sheet.{gain}

@@ -1,5 +1,4 @@
 -- Field by field.
-use borrow.Author.Rules.{rules}
 use Rattle.sheet_fields.proofs.Reading.{goes_on, done}
 use Rattle.sheet.specs.Sheet.{image}
 use Rattle.sheet.proofs.gain.read_image.Goals as goal

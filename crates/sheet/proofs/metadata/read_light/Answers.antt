@@ -1,6 +1,5 @@
 -- Both numbers, dropped where their bit is off.
 use mathlib.Core.Path.{refl}
-use borrow.Author.Rules.{rules}
 use Rattle.panel.specs.Of.{light_of}
 use Rattle.panel.specs.declared.metadata.MaybeLightLevel.TheVariants as L
 use Rattle.sheet_fields.proofs.Reading.{goes_on, done, stands}

@@ -1,5 +1,4 @@
 -- Field by field.
-use borrow.Author.Rules.{rules}
 use Rattle.sheet_fields.proofs.Reading.{goes_on, done}
 use Rattle.sheet.specs.Sheet.{metadata}
 use Rattle.sheet.proofs.metadata.read_metadata.Goals as goal

@@ -1,7 +1,6 @@
 -- What the number stands for, dropped where its bit is off.
 use mathlib.Core.Path.{refl, sym, ap, ◌∙◌}
 use mathlib.Core.Option.{get_or}
-use borrow.Author.Rules.{rules}
 use Rattle.panel.specs.declared.metadata.Orientation.TheVariants.{Normal}
 use Rattle.panel_codes.specs.Codes.{orientation_named}
 use Rattle.sheet_fields.proofs.Reading.{as_well, names}

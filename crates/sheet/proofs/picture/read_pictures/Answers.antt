@@ -1,5 +1,4 @@
 -- Field by field; the bytes run for the sum of the lengths.
-use borrow.Author.Rules.{rules}
 use Rattle.sheet_fields.proofs.Reading.{goes_on, done}
 use Rattle.sheet.specs.Sheet.{two_pictures}
 use Rattle.sheet.proofs.Fields.{by-sum}

@@ -1,7 +1,6 @@
 -- Code by code, by their numbers.
 use mathlib.Core.Path.{sym, ap, ◌∙◌}
 use mathlib.Core.Option.{get_or}
-use borrow.Author.Rules.{rules}
 use Rattle.panel.specs.Types.{unspecified}
 use Rattle.sheet_fields.proofs.Reading.{goes_on, done, as_well}
 use Rattle.sheet_fields.proofs.Codes.{by_numbers}

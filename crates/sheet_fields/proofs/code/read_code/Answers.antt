@@ -1,6 +1,5 @@
 -- The number, judged by the kind's look-up.
 use mathlib.Core.Path.{sym, ◌∙◌}
-use borrow.Author.Rules.{rules}
 use Rattle.sheet_fields.proofs.Reading.{is_one, is_none}
 use Rattle.sheet_fields.proofs.Values.{within}
 use Rattle.sheet_fields.proofs.code.read_code.Goals as goal

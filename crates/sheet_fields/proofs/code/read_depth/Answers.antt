@@ -1,7 +1,6 @@
 -- The number, and what it stands for.
 use mathlib.Core.Path.{refl, sym, ap, ◌∙◌}
 use mathlib.Core.Option.{get_or}
-use borrow.Author.Rules.{rules}
 use Rattle.panel.specs.declared.fmt.BitDepth.TheVariants.{Eight}
 use Rattle.panel_codes.specs.Codes.{depth_named}
 use Rattle.sheet_fields.proofs.Reading.{as_well, names}

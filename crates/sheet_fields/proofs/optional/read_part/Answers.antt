@@ -1,6 +1,5 @@
 -- The byte string, dropped where its bit is off.
 use mathlib.Core.Path.{refl, ◌∙◌}
-use borrow.Author.Rules.{rules}
 use Rattle.panel.specs.Of.{part}
 use Rattle.panel.specs.declared.part.Part.TheVariants.{Absent, Present}
 use Rattle.sheet_fields.specs.Cursor.{span_of}

@@ -1,7 +1,6 @@
 -- The first field that stands, or the second.
 use mathlib.Core.Path.{sym, ap, ◌∙◌}
 use mathlib.Core.Bool.{◌||◌}
-use borrow.Author.Rules.{rules}
 use Rattle.sheet_frame.specs.Map.{without}
 use Rattle.sheet_frame.proofs.map.bad_alternate.Goals as goal
 

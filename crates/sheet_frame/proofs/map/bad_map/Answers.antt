@@ -1,6 +1,5 @@
 -- The first test that holds.
 use mathlib.Core.Path.{sym, ◌∙◌}
-use borrow.Author.Rules.{rules}
 use borrow.Author.Tests.{lt-ltb, le-ltb}
 use Rattle.octets.proofs.Tests.{or_here, or-next}
 use Rattle.sheet_frame.proofs.map.bad_map.Goals as goal

@@ -1,6 +1,5 @@
 -- The map is bad, or it stands.
 use mathlib.Core.Path.{sym, ◌∙◌}
-use borrow.Author.Rules.{rules}
 use Rattle.sheet_frame.proofs.Frame.{bad, good}
 use Rattle.sheet_frame.proofs.map.judge_map.Goals as goal
 

@@ -1,5 +1,4 @@
 -- The number, and what it says as a map.
-use borrow.Author.Rules.{rules}
 use Rattle.sheet_fields.proofs.Reading.{goes_on}
 use Rattle.sheet_frame.specs.Map.{sheet_map}
 use Rattle.sheet_frame.proofs.map.read_map.Goals as goal

@@ -1,5 +1,4 @@
 -- One brand or the other.
-use borrow.Author.Rules.{rules}
 use Rattle.write_boxes.proofs.ftyp.write_brand.Goals as goal
 
 pub returns-then-rext : goal.returns-then-rext

@@ -1,5 +1,4 @@
 -- The brand, the version, the brand again, and two that every file has.
-use borrow.Author.Rules.{rules}
 use Rattle.octets.proofs.Stores.{◌▹◌}
 use Rattle.write_boxes.proofs.ftyp.write_brands.Goals as goal
 

@@ -3,7 +3,6 @@ use mathlib.Core.Path.{refl, ap}
 use mathlib.Core.Bool.{Bool, cond}
 use Prim.Native.Nat.{ℕ}
 use native.Mathlib.Omega.{arith}
-use borrow.Author.Rules.{rules}
 use Rattle.octets.proofs.Stores.{told, nothing}
 use Rattle.write_boxes.proofs.ftyp.write_extra_brand.Goals as goal
 

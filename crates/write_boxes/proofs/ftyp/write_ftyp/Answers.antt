@@ -3,7 +3,6 @@ use mathlib.Core.Path.{ap}
 use mathlib.Core.Bool.{Bool, cond}
 use Prim.Native.Nat.{ℕ}
 use native.Mathlib.Omega.{arith}
-use borrow.Author.Rules.{rules}
 use Rattle.octets.specs.Numbers.{text}
 use Rattle.octets.proofs.Stores.{◌▹◌, kept, told, boxed, retold}
 use Rattle.panel.specs.Parts.{given}

@@ -1,6 +1,5 @@
 -- The head, the group's id, the count, and the two items.
 use mathlib.Core.Path.{refl}
-use borrow.Author.Rules.{rules}
 use Rattle.octets.proofs.Stores.{◌▹◌, full_boxed}
 use Rattle.write_boxes.proofs.grpl.write_altr.Goals as goal
 

@@ -1,6 +1,5 @@
 -- The head, and one group.
 use mathlib.Core.Path.{refl}
-use borrow.Author.Rules.{rules}
 use Rattle.octets.proofs.Stores.{boxed}
 use Rattle.write_boxes.proofs.grpl.write_group_box.Goals as goal
 

@@ -1,6 +1,5 @@
 -- The head and six fields.
 use mathlib.Core.Path.{refl}
-use borrow.Author.Rules.{rules}
 use Rattle.octets.proofs.Stores.{◌▹◌, full_boxed}
 use Rattle.write_boxes.proofs.hdlr.write_hdlr.Goals as goal
 

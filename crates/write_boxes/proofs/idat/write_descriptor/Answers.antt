@@ -3,7 +3,6 @@ use mathlib.Core.Path.{sym, ap, ◌∙◌}
 use mathlib.Core.Bool.{Bool, cond}
 use Prim.Native.Nat.{ℕ, ◌-◌}
 use native.Mathlib.Omega.{arith}
-use borrow.Author.Rules.{rules}
 use Rattle.octets.specs.Numbers.{◌‖◌, be}
 use Rattle.octets.proofs.Stores.{◌▹◌, told}
 use Rattle.plan_items.proofs.Wide.{narrow, two_sides}

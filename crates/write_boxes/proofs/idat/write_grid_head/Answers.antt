@@ -1,5 +1,4 @@
 -- Version, flags, rows and columns less one.
-use borrow.Author.Rules.{rules}
 use Rattle.octets.proofs.Stores.{◌▹◌}
 use Rattle.write_boxes.proofs.idat.write_grid_head.Goals as goal
 

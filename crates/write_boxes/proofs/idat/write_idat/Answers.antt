@@ -1,7 +1,6 @@
 -- The head, and the descriptor twice.
 use mathlib.Core.Path.{refl}
 use native.Mathlib.Omega.{arith}
-use borrow.Author.Rules.{rules}
 use Rattle.octets.proofs.Stores.{◌▹◌, boxed, retold}
 use Rattle.write_boxes.proofs.idat.write_idat.Goals as goal
 

@@ -1,5 +1,4 @@
 -- The offset in four bytes, and the Exif bytes behind it.
-use borrow.Author.Rules.{rules}
 use Rattle.octets.proofs.Stores.{◌▹◌}
 use Rattle.write_boxes.proofs.mdat.write_exif_data_block.Goals as goal
 

@@ -2,7 +2,6 @@
 use mathlib.Core.Path.{refl, sym, ap}
 use mathlib.Core.List.{flatten}
 use native.Mathlib.Omega.{arith}
-use borrow.Author.Rules.{rules}
 use Rattle.octets.proofs.Stores.{told, nothing}
 use Rattle.octets.proofs.Lists.{flatten_one}
 use Rattle.panel.specs.Of.{part}

@@ -1,5 +1,4 @@
 -- The head, and the payloads in their order.
-use borrow.Author.Rules.{rules}
 use Rattle.octets.proofs.Stores.{◌▹◌, boxed}
 use Rattle.write_boxes.proofs.mdat.write_mdat.Goals as goal
 

@@ -1,7 +1,6 @@
 -- The head and the id.
 use mathlib.Core.Path.{refl}
 use native.Mathlib.Omega.{arith}
-use borrow.Author.Rules.{rules}
 use Rattle.octets.proofs.Stores.{retold}
 use Rattle.write_ids.proofs.Forms.{raised}
 use Rattle.write_boxes.proofs.pitm.write_pitm.Goals as goal

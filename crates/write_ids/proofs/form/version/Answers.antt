@@ -1,6 +1,5 @@
 -- By the test.
 use native.Mathlib.Omega.{arith}
-use borrow.Author.Rules.{rules}
 use Rattle.panel.proofs.Form.{tested}
 use Rattle.write_ids.proofs.form.version.Goals as goal
 

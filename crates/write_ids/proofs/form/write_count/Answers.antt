@@ -1,7 +1,6 @@
 -- By the test: the lower half does not see what lies above it.
 use mathlib.Core.Path.{refl}
 use native.Mathlib.Omega.{arith}
-use borrow.Author.Rules.{rules}
 use Rattle.octets.proofs.Numbers.{be-mod}
 use Rattle.octets.proofs.Stores.{told}
 use Rattle.panel.proofs.Form.{tested}

@@ -1,7 +1,6 @@
 -- The head with the version.
 use mathlib.Core.Path.{refl, ap}
 use Prim.Native.Nat.{ℕ}
-use borrow.Author.Rules.{rules}
 use Rattle.octets.specs.Numbers.{◌‖◌, be}
 use Rattle.octets.proofs.Stores.{told}
 use Rattle.write_ids.proofs.form.write_item_box.Goals as goal

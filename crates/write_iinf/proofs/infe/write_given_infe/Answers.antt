@@ -4,7 +4,6 @@ use mathlib.Core.Bool.{Bool, cond}
 use Prim.Native.Nat.{ℕ, ◌+◌}
 use native.Mathlib.Omega.{arith}
 use lib.ListN.{length}
-use borrow.Author.Rules.{rules}
 use Rattle.octets.proofs.Stores.{no_boxes}
 use Rattle.panel.specs.Form.{form_of}
 use Rattle.heif.specs.Iinf.{infe_size}

@@ -2,7 +2,6 @@
 use mathlib.Core.Path.{refl, ap}
 use Prim.Native.Nat.{ℕ, ◌+◌}
 use native.Mathlib.Omega.{arith}
-use borrow.Author.Rules.{rules}
 use Rattle.octets.specs.Numbers.{◌‖◌, be, text}
 use Rattle.octets.proofs.Stores.{◌▹◌, told, full_boxed, retold}
 use Rattle.panel.specs.Form.{form_of}

@@ -1,7 +1,6 @@
 -- Four fields.
 use mathlib.Core.Path.{refl}
 use native.Mathlib.Omega.{arith}
-use borrow.Author.Rules.{rules}
 use Rattle.octets.proofs.Stores.{◌▹◌, told}
 use Rattle.write_iinf.proofs.infe.write_item_type.Goals as goal
 

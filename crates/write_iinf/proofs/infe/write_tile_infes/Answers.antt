@@ -1,16 +1,13 @@
 -- Each turn writes one entry more.
 use mathlib.Core.Path.{refl, sym}
-use mathlib.Core.List.{List, [], ◌∷◌}
-use Prim.Native.Nat.{ℕ}
+use mathlib.Core.List.{[]}
 use native.Mathlib.Omega.{arith}
-use Rattle.octets.specs.Boxes.{boxes}
 use Rattle.octets.proofs.Stores.{told}
 use Rattle.octets.proofs.Boxes.{boxes-map}
-use Rattle.panel.specs.Form.{Form, form_of}
+use Rattle.panel.specs.Form.{form_of}
 use Rattle.heif.specs.Items.{ids_from}
-use Rattle.heif.specs.Iinf.{infe, infe_size}
-use Rattle.write_ids.proofs.Loops.{Turn, begun, room, turned, ended}
-use Rattle.write_iinf.proofs.infe.write_tile_infes.Invariants.{print}
+use Rattle.heif.specs.Iinf.{infe}
+use Rattle.write_ids.proofs.Loops.{begun, room, turned, ended}
 use Rattle.write_iinf.proofs.infe.write_tile_infes.Goals as goal
 
 pub loop-left-init : goal.loop-left-init

@@ -1,15 +1,10 @@
 -- Each turn writes one entry more.
-use mathlib.Core.Path.{refl, sym}
 use mathlib.Core.List.{List, [], ◌∷◌}
 use Prim.Native.Nat.{ℕ}
-use native.Mathlib.Omega.{arith}
 use Rattle.octets.specs.Boxes.{boxes}
-use Rattle.octets.proofs.Stores.{told}
-use Rattle.octets.proofs.Boxes.{boxes-map}
 use Rattle.panel.specs.Form.{Form, form_of}
-use Rattle.heif.specs.Items.{ids_from}
 use Rattle.heif.specs.Iinf.{infe, infe_size}
-use Rattle.write_ids.proofs.Loops.{Turn, begun, room, turned, ended}
+use Rattle.write_ids.proofs.Loops.{Turn}
 use Rattle.write_iinf.proofs.infe.write_tile_infes.Given as goal
 
 -- the bytes of a tile's entry

@@ -4,7 +4,6 @@ use mathlib.Core.Bool.{Bool, cond}
 use mathlib.Core.List.{flat_map}
 use Prim.Native.Nat.{ℕ, ◌*◌}
 use native.Mathlib.Omega.{arith}
-use borrow.Author.Rules.{rules}
 use Rattle.octets.proofs.Stores.{◌▹◌, kept, told, nothing}
 use Rattle.panel.specs.Form.{form_of}
 use Rattle.heif.specs.Iloc.{entry_size}

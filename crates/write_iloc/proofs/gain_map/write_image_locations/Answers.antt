@@ -4,7 +4,6 @@ use mathlib.Core.List.{flat_map}
 use Prim.Native.Nat.{ℕ, suc, ◌+◌}
 use native.Mathlib.Omega.{arith}
 use native.Mathlib.Numerals.{add-one}
-use borrow.Author.Rules.{rules}
 use Rattle.octets.proofs.Lists.{flat_map_one}
 use Rattle.octets.proofs.Stores.{◌▹◌, told}
 use Rattle.panel.specs.Form.{form_of}

@@ -1,5 +1,4 @@
 -- Six numbers.
-use borrow.Author.Rules.{rules}
 use Rattle.octets.proofs.Stores.{◌▹◌}
 use Rattle.write_iloc.proofs.location.write_ordinary_location.Goals as goal
 

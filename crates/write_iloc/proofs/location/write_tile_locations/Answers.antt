@@ -1,19 +1,16 @@
 -- Each turn writes one entry more, and the next begins where its sample ends.
 use mathlib.Core.Path.{◌≡◌, refl}
-use mathlib.Core.List.{List, flat_map}
-use Prim.Native.Nat.{ℕ, ◌+◌, ◌*◌, ◌-◌, ◌≤◌}
+use mathlib.Core.List.{flat_map}
 use native.Mathlib.Omega.{arith}
-use lib.ListN.{length, drop}
+use lib.ListN.{length}
 use lib.Seq.{drop-length}
-use Rattle.octets.specs.Numbers.{total}
 use Rattle.octets.proofs.Lists.{total_left}
-use Rattle.octets.proofs.Stores.{Owes, owes, turn, paid}
-use Rattle.panel.specs.Form.{Form, form_of}
-use Rattle.heif.specs.Iloc.{entry, located, entry_size}
+use Rattle.octets.proofs.Stores.{owes, turn, paid}
+use Rattle.panel.specs.Form.{form_of}
+use Rattle.heif.specs.Iloc.{entry_size}
 use Rattle.write_ids.proofs.Loops.{mul_all, mul_left, mul-none}
 use Rattle.write_iloc.specs.Spans.{spans}
 use Rattle.write_iloc.proofs.Spans.{entries_step}
-use Rattle.write_iloc.proofs.location.write_tile_locations.Invariants.{Turn}
 use Rattle.write_iloc.proofs.location.write_tile_locations.Goals as goal
 
 pub loop-i-init : goal.loop-i-init

@@ -1,17 +1,12 @@
 -- Each turn writes one entry more.
-use mathlib.Core.Path.{refl, sym}
 use mathlib.Core.List.{List}
 use Prim.Native.Nat.{ℕ, ◌+◌}
-use native.Mathlib.Omega.{arith}
 use Rattle.octets.specs.Numbers.{◌‖◌}
-use Rattle.octets.proofs.Stores.{told}
-use Rattle.octets.proofs.Lists.{flat_map-map}
 use Rattle.panel.specs.Form.{Form, form_of}
-use Rattle.heif.specs.Items.{ids_from}
 use Rattle.heif.specs.Ipma.{essential, ◌with◌, association}
 use Rattle.plan_runs.specs.Runs.{places}
 use Rattle.plan_runs.specs.declared.Run.{Run}
-use Rattle.write_ids.proofs.Loops.{Turn, begun, room, turned, ended}
+use Rattle.write_ids.proofs.Loops.{Turn}
 use Rattle.write_ipma.proofs.association.write_alpha_tile_associations.Given as goal
 
 -- the bytes of a tile's entry

@@ -1,6 +1,5 @@
 -- The head, and three runs.
 use mathlib.Core.Path.{refl}
-use borrow.Author.Rules.{rules}
 use Rattle.octets.proofs.Stores.{◌▹◌, told}
 use Rattle.panel.specs.Form.{form_of}
 use Rattle.write_ipma.proofs.Entries.{count_three, counted}

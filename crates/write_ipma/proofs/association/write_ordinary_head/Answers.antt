@@ -1,5 +1,4 @@
 -- The id and the count.
-use borrow.Author.Rules.{rules}
 use Rattle.octets.proofs.Stores.{◌▹◌}
 use Rattle.write_ipma.proofs.association.write_ordinary_head.Goals as goal
 

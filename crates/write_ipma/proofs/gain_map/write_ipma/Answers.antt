@@ -1,7 +1,6 @@
 -- The gain image's entry and the tone map's.
 use mathlib.Core.Path.{sym}
 use native.Mathlib.Omega.{arith}
-use borrow.Author.Rules.{rules}
 use Rattle.octets.proofs.Lists.{flat_map-append}
 use Rattle.octets.proofs.Stores.{◌▹◌, kept, told}
 use Rattle.panel.specs.Form.{form_of}

@@ -5,7 +5,6 @@ use mathlib.Core.List.{flat_map}
 use Prim.Native.Nat.{ℕ, ◌+◌}
 use lib.ListN.{length}
 use native.Mathlib.Omega.{arith}
-use borrow.Author.Rules.{rules}
 use Rattle.octets.proofs.Stores.{◌▹◌, kept, told, nothing}
 use Rattle.panel.specs.Form.{form_of}
 use Rattle.heif.specs.Ipma.{tone_list}

@@ -1,7 +1,6 @@
 -- Three roles at once.
 use mathlib.Core.Path.{refl}
 use native.Mathlib.Omega.{arith}
-use borrow.Author.Rules.{rules}
 use Rattle.octets.proofs.Stores.{told}
 use Rattle.plan_runs.specs.Roles.{its_of}
 use Rattle.plan_runs.proofs.Lengths.{length-tone_list}

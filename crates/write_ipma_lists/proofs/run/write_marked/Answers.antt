@@ -1,7 +1,6 @@
 -- None, one or two positions.
 use mathlib.Core.Path.{◌≡◌}
 use native.Mathlib.Omega.{arith}
-use borrow.Author.Rules.{rules}
 use Rattle.octets.proofs.Stores.{◌▹◌, told, nothing, kept}
 use Rattle.write_ipma_lists.proofs.Marks.{no_position, one_position, two_positions}
 use Rattle.write_ipma_lists.proofs.run.write_marked.Goals as goal

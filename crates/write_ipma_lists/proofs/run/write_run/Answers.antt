@@ -1,6 +1,5 @@
 -- Positions with the mark added, or none.
 use mathlib.Core.Path.{refl}
-use borrow.Author.Rules.{rules}
 use Rattle.octets.proofs.Stores.{told}
 use Rattle.plan_runs.specs.Runs.{places}
 use Rattle.write_ipma_lists.proofs.Marks.{by_mark}

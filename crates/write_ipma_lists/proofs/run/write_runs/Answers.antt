@@ -1,5 +1,4 @@
 -- Three runs.
-use borrow.Author.Rules.{rules}
 use Rattle.octets.proofs.Stores.{◌▹◌}
 use Rattle.write_ipma_lists.proofs.run.write_runs.Goals as goal
 

@@ -4,7 +4,6 @@ use mathlib.Core.Bool.{Bool, cond}
 use mathlib.Core.List.{[], ◌∷◌}
 use Prim.Native.Nat.{ℕ, ◌*◌}
 use native.Mathlib.Omega.{arith}
-use borrow.Author.Rules.{rules}
 use Rattle.octets.proofs.Stores.{kept, retold, no_boxes, ◌▸◌}
 use Rattle.panel.specs.Form.{form_of}
 use Rattle.heif.specs.Iref.{reference, reference_size}

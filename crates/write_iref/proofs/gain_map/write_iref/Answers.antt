@@ -1,5 +1,4 @@
 -- The gain image's references and the tone map's.
-use borrow.Author.Rules.{rules}
 use Rattle.octets.proofs.Stores.{◌▸◌}
 use Rattle.write_iref.proofs.gain_map.write_iref.Goals as goal
 

@@ -1,7 +1,6 @@
 -- The head, the grid, the count of its tiles, and their ids.
 use mathlib.Core.Path.{refl, sym, ap}
 use native.Mathlib.Omega.{arith}
-use borrow.Author.Rules.{rules}
 use Rattle.octets.specs.Numbers.{be}
 use Rattle.octets.proofs.Stores.{◌▹◌, told, boxed, retold}
 use Rattle.heif.proofs.Items.{length-ids_from}

@@ -1,7 +1,6 @@
 -- The head, the item, a count of one, the other item.
 use mathlib.Core.Path.{refl, sym}
 use native.Mathlib.Omega.{arith}
-use borrow.Author.Rules.{rules}
 use Rattle.octets.specs.Numbers.{be}
 use Rattle.octets.proofs.Stores.{◌▹◌, told, boxed_of, retold}
 use Rattle.octets.proofs.Lists.{flat_map_one}

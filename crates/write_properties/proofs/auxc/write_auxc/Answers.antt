@@ -1,7 +1,6 @@
 -- The head, the type, and a zero byte.
 use mathlib.Core.Path.{refl}
 use native.Mathlib.Omega.{arith}
-use borrow.Author.Rules.{rules}
 use Rattle.octets.proofs.Stores.{◌▹◌, full_boxed, retold}
 use Rattle.write_properties.proofs.auxc.write_auxc.Goals as goal
 

@@ -1,7 +1,6 @@
 -- Two numbers, or nothing.
 use mathlib.Core.Path.{refl, ap}
 use native.Mathlib.Omega.{arith}
-use borrow.Author.Rules.{rules}
 use Rattle.octets.proofs.Stores.{◌▹◌, boxed, no_boxes}
 use Rattle.panel.specs.Of.{light_of}
 use Rattle.panel.specs.declared.metadata.MaybeLightLevel.{MaybeLightLevel}

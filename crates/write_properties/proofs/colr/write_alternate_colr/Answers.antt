@@ -1,7 +1,6 @@
 -- What an alternate colour states, or nothing.
 use mathlib.Core.Path.{ap}
 use native.Mathlib.Omega.{arith}
-use borrow.Author.Rules.{rules}
 use Rattle.octets.proofs.Stores.{no_boxes}
 use Rattle.panel.specs.Of.{alternate_of}
 use Rattle.panel.specs.declared.color.MaybeColorMetadata.{MaybeColorMetadata}

@@ -1,7 +1,6 @@
 -- Code points, or what stands for them.
 use mathlib.Core.Path.{ap}
 use native.Mathlib.Omega.{arith}
-use borrow.Author.Rules.{rules}
 use Rattle.panel.specs.Of.{cicp_of, part}
 use Rattle.panel.specs.declared.color.MaybeCicp.{MaybeCicp}
 use Rattle.heif.specs.Colr.{first_colr_size}

@@ -1,7 +1,6 @@
 -- The head, the kind of colour, and the profile.
 use mathlib.Core.Path.{refl}
 use native.Mathlib.Omega.{arith}
-use borrow.Author.Rules.{rules}
 use Rattle.octets.proofs.Stores.{◌▹◌, boxed, retold}
 use Rattle.write_properties.proofs.colr.write_colr_icc.Goals as goal
 

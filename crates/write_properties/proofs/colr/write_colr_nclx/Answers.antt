@@ -1,6 +1,5 @@
 -- The head, the kind of colour, three codes and the range.
 use mathlib.Core.Path.{refl, ap}
-use borrow.Author.Rules.{rules}
 use Rattle.octets.specs.Numbers.{be}
 use Rattle.octets.proofs.Stores.{◌▹◌, told, boxed}
 use Rattle.write_properties.proofs.colr.write_colr_nclx.Goals as goal

@@ -3,7 +3,6 @@ use mathlib.Core.Path.{refl, ap}
 use mathlib.Core.Option.{none}
 use mathlib.Core.List.{[], ◌∷◌}
 use native.Mathlib.Omega.{arith}
-use borrow.Author.Rules.{rules}
 use Rattle.octets.specs.Boxes.{box}
 use Rattle.octets.proofs.Stores.{retold}
 use Rattle.panel.specs.Of.{part}

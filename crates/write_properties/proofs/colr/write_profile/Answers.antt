@@ -1,7 +1,6 @@
 -- A profile, or nothing.
 use mathlib.Core.Path.{ap}
 use native.Mathlib.Omega.{arith}
-use borrow.Author.Rules.{rules}
 use Rattle.octets.proofs.Stores.{no_boxes}
 use Rattle.panel.specs.Of.{part}
 use Rattle.panel.specs.declared.part.Part.{Part}

@@ -1,7 +1,6 @@
 -- A profile beside code points, or nothing.
 use mathlib.Core.Path.{ap}
 use native.Mathlib.Omega.{arith}
-use borrow.Author.Rules.{rules}
 use Rattle.octets.proofs.Stores.{no_boxes}
 use Rattle.panel.specs.Of.{cicp_of, part}
 use Rattle.panel.specs.declared.color.MaybeCicp.{MaybeCicp}

@@ -1,7 +1,6 @@
 -- Code points and then a profile, or a profile, or nothing.
 use mathlib.Core.Path.{refl, ap}
 use native.Mathlib.Omega.{arith}
-use borrow.Author.Rules.{rules}
 use Rattle.octets.proofs.Stores.{retold, ◌▸◌}
 use Rattle.panel.specs.Of.{cicp_of, part}
 use Rattle.panel.specs.declared.color.MaybeCicp.{MaybeCicp}

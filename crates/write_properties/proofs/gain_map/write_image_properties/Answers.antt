@@ -3,7 +3,6 @@ use mathlib.Core.Path.{refl, ap}
 use mathlib.Core.List.{[], ◌∷◌}
 use Prim.Native.Nat.{ℕ}
 use native.Mathlib.Omega.{arith}
-use borrow.Author.Rules.{rules}
 use Rattle.octets.proofs.Stores.{retold, ◌▸◌}
 use Rattle.heif.specs.Pixi.{pixi}
 use Rattle.write_properties.proofs.gain_map.write_image_properties.Goals as goal

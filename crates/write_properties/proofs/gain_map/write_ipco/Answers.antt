@@ -1,7 +1,6 @@
 -- The gain image's properties and the tone map's, or nothing.
 use mathlib.Core.Path.{ap}
 use native.Mathlib.Omega.{arith}
-use borrow.Author.Rules.{rules}
 use Rattle.octets.proofs.Stores.{kept, no_boxes, ◌▸◌}
 use Rattle.panel.specs.declared.gain_map.MaybeGainMap.{MaybeGainMap}
 use Rattle.heif.specs.Ipco.{gain_properties_size}

@@ -1,7 +1,6 @@
 -- Two properties and the alternate colour.
 use mathlib.Core.Path.{refl}
 use native.Mathlib.Omega.{arith}
-use borrow.Author.Rules.{rules}
 use Rattle.octets.proofs.Stores.{retold, ◌▸◌}
 use Rattle.write_properties.proofs.gain_map.write_tone_boxes.Goals as goal
 

@@ -2,7 +2,6 @@
 use mathlib.Core.Path.{refl, sym, ap}
 use mathlib.Core.List.{List, [], ◌∷◌, append-nil}
 use native.Mathlib.Omega.{arith}
-use borrow.Author.Rules.{rules}
 use Rattle.octets.specs.Boxes.{Box}
 use Rattle.octets.proofs.Stores.{retold, no_boxes}
 use Rattle.panel.specs.Of.{part, alternate_of}

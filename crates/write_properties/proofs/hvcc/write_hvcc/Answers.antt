@@ -1,5 +1,4 @@
 -- The head, then the record.
-use borrow.Author.Rules.{rules}
 use Rattle.octets.proofs.Stores.{boxed}
 use Rattle.write_properties.proofs.hvcc.write_hvcc.Goals as goal
 

@@ -1,7 +1,6 @@
 -- One byte, or nothing.
 use mathlib.Core.Path.{refl, ap}
 use native.Mathlib.Omega.{arith}
-use borrow.Author.Rules.{rules}
 use Rattle.octets.specs.Numbers.{be}
 use Rattle.octets.proofs.Stores.{told, boxed, no_boxes}
 use Rattle.panel.specs.Types.{maybe_axis}

@@ -2,7 +2,6 @@
 use mathlib.Core.Path.{ap}
 use Prim.Native.Nat.{ℕ, ◌%◌}
 use lib.Dec.{eqb}
-use borrow.Author.Rules.{rules}
 use Rattle.write_properties.proofs.ipco.is_turned.Goals as goal
 
 pub returns : goal.returns

@@ -1,6 +1,5 @@
 -- The larger of the depth and 10, depth by depth.
 use mathlib.Core.Path.{refl}
-use borrow.Author.Rules.{rules}
 use Rattle.write_properties.proofs.ipco.tone_depth.Goals as goal
 
 pub returns-in-Eight : goal.returns-in-Eight

@@ -2,7 +2,6 @@
 use mathlib.Core.Path.{refl, ap}
 use mathlib.Core.List.{[], ◌∷◌}
 use Prim.Native.Nat.{ℕ}
-use borrow.Author.Rules.{rules}
 use Rattle.octets.proofs.Stores.{retold, ◌▸◌}
 use Rattle.heif.specs.Pixi.{pixi}
 use Rattle.write_properties.proofs.ipco.write_alpha_properties.Goals as goal

@@ -2,7 +2,6 @@
 use mathlib.Core.Path.{refl, ap, ◌∙◌}
 use mathlib.Core.Bool.{Bool, cond}
 use Prim.Native.Nat.{ℕ}
-use borrow.Author.Rules.{rules}
 use Rattle.octets.proofs.Stores.{retold}
 use Rattle.heif.specs.Ispe.{ispe}
 use Rattle.heif.specs.Pixi.{pixi}

@@ -3,7 +3,6 @@ use mathlib.Core.Path.{sym, ap, ◌∙◌}
 use mathlib.Core.List.{[], ◌∷◌}
 use Prim.Native.Nat.{ℕ, ◌+◌}
 use native.Mathlib.Omega.{arith}
-use borrow.Author.Rules.{rules}
 use Rattle.octets.specs.Boxes.{Box}
 use Rattle.octets.proofs.Stores.{kept, boxed, retold, ◌▸◌}
 use Rattle.heif.specs.Lent.{lent_props}

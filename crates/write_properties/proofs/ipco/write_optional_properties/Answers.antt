@@ -5,7 +5,6 @@ use mathlib.Core.Option.{Option}
 use mathlib.Core.List.{append-nil}
 use Prim.Native.Nat.{ℕ}
 use native.Mathlib.Omega.{arith}
-use borrow.Author.Rules.{rules}
 use Rattle.octets.specs.Boxes.{optional}
 use Rattle.octets.proofs.Stores.{kept, retold, ◌▸◌}
 use Rattle.heif.specs.Irot.{irot_payload, irot_size}

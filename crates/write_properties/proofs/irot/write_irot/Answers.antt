@@ -1,7 +1,6 @@
 -- One byte, or nothing.
 use mathlib.Core.Path.{refl, sym}
 use native.Mathlib.Omega.{arith}
-use borrow.Author.Rules.{rules}
 use Rattle.octets.proofs.Stores.{boxed, retold, no_boxes}
 use Rattle.write_properties.proofs.Turns.{irot-none, irot-some}
 use Rattle.write_properties.proofs.irot.write_irot.Goals as goal

@@ -1,6 +1,5 @@
 -- The head, then the two sizes.
 use mathlib.Core.Path.{refl}
-use borrow.Author.Rules.{rules}
 use Rattle.octets.proofs.Stores.{◌▹◌, full_boxed}
 use Rattle.write_properties.proofs.ispe.write_ispe.Goals as goal
 

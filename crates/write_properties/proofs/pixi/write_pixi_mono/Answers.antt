@@ -1,7 +1,6 @@
 -- The head, the count of channels, and the depth.
 use mathlib.Core.Path.{refl}
 use native.Mathlib.Omega.{arith}
-use borrow.Author.Rules.{rules}
 use Rattle.octets.proofs.Stores.{◌▹◌, told, full_boxed}
 use Rattle.octets.proofs.Numbers.{be_one}
 use Rattle.write_properties.proofs.pixi.write_pixi_mono.Goals as goal
