@@ -216,23 +216,27 @@ cat >"$room/kit/rt" <<'KIT'
 #!/bin/sh
 # A kit that says what rt says and takes no time. Where WATCHED names a file, it goes on to the next crate when the last one is shown there,
 # or after some seconds. SLOW has it sleep, with the sleep's number in ROOM/sleep. EDITED names a source that somebody edits meanwhile. It
-# fails as FAULTY says, without a word if that is `all`. As rt does, it links a program only if it has proved something of it anew.
+# fails as FAULTY says, without a word if that is `all`. As rt does, it works in a crate's folder, and leaves what it makes in out/ there.
 echo "$*" >>"$ROOM/runs"
 [ "$FAULTY" != all ] || exit 1
 count=0
 for crate in one two three; do
-    echo "fn $crate::f: proved"
+    echo "fn $crate::f: proved" >&2
     if [ "$FAULTY" = "$crate" ]; then
-        echo "crates/$crate/proofs/f/Proof.antt:7:1: error: the first error"
-        echo "  and what belongs to it"
-        echo "crates/$crate/proofs/f/Proof.antt:9:1: error: a later error"
-        echo "rt: $crate NOT PROVED (exit 1, 0 s)"
-        for i in 1 2 3 4 5 6 7 8 9 10 11 12 13 14 15 16 17 18 19 20 21 22 23 24 25; do
-            echo "rt: more$i NOT PROVED: its dependency $crate is not proved"
-        done
+        {
+            echo "./proofs/f/Answers.antt:7:1: error: the first error"
+            echo "  and what belongs to it"
+            echo "./proofs/f/Answers.antt:9:1: error: a later error"
+            echo "fn $crate::f: not proved"
+            for i in 1 2 3 4 5 6 7 8 9 10 11 12 13 14 15 16 17 18 19 20 21 22 23 24 25; do
+                echo "fn $crate::more$i: no proof: it calls \`$crate::f\`, which is not proved"
+            done
+            echo "logic=not-proved"
+        } >&2
         exit 1
     fi
-    echo "rt: $crate proved (0 s)"
+    echo "crate $crate: modules loaded=0 checked=1" >&2
+    echo "logic=proved functions=1" >&2
     count=$((count + 1))
     tries=0
     while [ -n "$WATCHED" ] && [ $tries -lt 60 ] && ! grep -aqs "crate $count of" "$WATCHED"; do sleep 0.05; tries=$((tries + 1)); done
@@ -242,17 +246,11 @@ for crate in one two three; do
         wait
     fi
 done
-[ -z "$EDITED" ] || touch "$EDITED"
-mkdir -p target/bin target/staticlib target/stamp
+[ -z "$EDITED" ] || touch "../../$EDITED"
+mkdir -p out
 case $1 in
-    check)
-        echo "rt: program_panel proved (0 s)"
-        if [ ! -e target/stamp/program_panel ] || [ -n "$(find crates crates.txt -newer target/stamp/program_panel)" ]; then
-            touch target/stamp/program_panel
-            cp "$PROGRAM" target/bin/program_panel
-        fi
-        ;;
-    staticlib) echo archive >target/staticlib/libkahopiru.a ;;
+    run) cp "$PROGRAM" out/program_panel ;;
+    lib) echo archive >out/libkahopiru.a ;;
 esac
 KIT
 chmod 755 "$room/kit" "$room/kit/rt"
@@ -271,7 +269,7 @@ new_root() {
         mkdir -p "$root/crates/$crate/src" "$root/crates/$crate/specs" "$root/crates/$crate/proofs"
         touch "$root/crates/$crate/src/lib.rt" "$root/crates/$crate/specs/Lib.antt"
     done
-    printf '%s\n' 'one:' '' 'two: one' 'three: one # a remark' '' 'kahopiru: one two three' '' 'program_panel: one two three io' \
+    printf '%s\n' 'one:' '' 'two: one' 'three: one # a remark' '' 'kahopiru staticlib: one two three' '' 'program_panel: one two three io' \
         'other: one' >"$root/crates.txt"
 }
 # used SCRIPT: a use of a script in that repository, with the kit that pretends
@@ -355,7 +353,7 @@ first_uses() {
     FAULTY=two run used $script
     holds "$script ends in status 2 if the proofs fail" all ended 2 , [ ! -s "$room/out" ]
     holds "$script shows the first error with what belongs to it" \
-        all says 'Proof.antt:7:1: error: the first error' , says 'and what belongs to it'
+        all says 'Answers.antt:7:1: error: the first error' , says 'and what belongs to it'
     holds "$script shows neither later errors nor what follows from the first" says_not 'a later error|more25'
     FAULTY=all run used $script
     holds "$script says so if the kit fails without a word" all ended 2 , says 'rt did not say why'

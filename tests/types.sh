@@ -8,10 +8,10 @@ fail() { echo "types: $1" >&2; exit 1; }
 
 copy=$(mktemp -d)
 trap 'rm -rf "$copy"' EXIT
-cp -r crates crates.txt target "$copy"
+tar --exclude='crates/*/out' -c crates crates.txt | tar -x -C "$copy"
 
 # compiles CRATE: the compiler's part of a check, without the proofs of the crate itself
-compiles() { (cd "$copy" && rt mir "$1") >"$copy/out" 2>&1; }
+compiles() { (cd "$copy/crates/$1" && rt check --only '') >"$copy/out" 2>&1; }
 
 # mistaken CRATE FILE OLD NEW ERROR: the edit is refused with this type error, and is taken back
 mistaken() {
