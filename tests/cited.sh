@@ -27,12 +27,12 @@ not_ours=(
     requires ensures pub mod mut     # words of Rattle
     Option 'Option<bool>' TryFrom io::Write  # types of Rust's, and traits
     .antt abbrev unfoldable          # an ending, and words of antt
-    .entry .exit                     # of a contract: what was lent, before and after
+    .old .new result                 # of a contract: what was lent, before and after, and the answer
     rt must-fail selftest bin        # the kit's command and its folder
     git status flock setsid          # commands, with options of theirs
     pkg-config --libs --modversion cargo doc --open
     libkahopiru.a                    # what is built
-    os read write close              # the kit's library, and libc's functions
+    std                              # the kit's library
 )
 ours() { [[ " ${not_ours[*]} " != *" $1 "* ]]; }
 

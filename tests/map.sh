@@ -21,7 +21,7 @@ crates=0
 while read -r crate; do
     grep -qF ">$crate</text>" "$picture" || fail "$crate is not in $picture"
     crates=$((crates + 1))
-done < <(sed -n 's/^\([a-z_]*\):.*/\1/p' crates.txt)
+done < <(sed -nE 's/^([a-z_]*)( staticlib)?:.*/\1/p' crates.txt)
 grep -qF '](crates.svg)' "$page" || fail "$page does not show $picture"
 
 # A path is every word with a slash, at the root or below crates/; a crate is the first word of `crate::name`.
