@@ -95,7 +95,7 @@ holds "a closed standard output ends in status 2 and a line" failed_with 'standa
 piped './panel <&-'
 holds "a closed standard input ends in status 2 and a line" failed_with 'standard input is closed'
 piped 'exec 5> >(:); wait $!; ./panel <"$0" >&5' "$p"
-holds "a pipe that nobody reads ends in status 2 and a line" failed_with 'PIPE'
+holds "a pipe that nobody reads ends in status 2 and a line" failed_with 'not all of it could be written'
 run ./panel <"$home/examples"
 holds "a sheet that can't be read is no empty sheet" failed_with 'the sheet cannot be read to its end'
 for each in './panel no.sheet 2>/dev/full' './panel "$0" >/dev/full 2>&-' './panel <&- 2>&-' './panel "$1" 2>/dev/full >/dev/full'; do
