@@ -57,7 +57,7 @@ width_picture first (suc n) id l m {k} h = omega (arith, width_picture (suc firs
 -- of the tone map, wherever its positions begin
 width-tone : (id at : ℕ) (size depth : Box) (t : Option (List ℕ)) (a : Option Colour)
     → let its = positions at (tone_slots size depth t a) in
-    total (map width (given (has t) ((id with its Ipco.ispe-tone ‖ its Ipco.pixi-tone ‖ its Ipco.colr-tone) ∷ []))) ≡ cond (has t) (2 + alternates_count a) 0
+    total (map width (given (has t) ((id with its Ipco.ispe_tone ‖ its Ipco.pixi_tone ‖ its Ipco.colr_tone) ∷ []))) ≡ cond (has t) (2 + alternates_count a) 0
 width-tone id at size depth none a = refl
 width-tone id at size depth (some t) a = simp (length-ids_from, length-alternates) (omega arith)
 

@@ -24,28 +24,28 @@ use Rattle.heif.specs.Clli.{clli_payload, clli_size}
 -- ---- the properties in their order: a role, and the boxes that the panel has in it, which are one, or none, or two alternate colours
 
 pub data Role : Type 0 where
-  hvcC-colour ispe-tile ispe-whole colr-first pixi-colour hvcC-alpha pixi-alpha auxC-alpha colr-second irot imir clli : Role
-  hvcC-gain ispe-gain pixi-gain auxC-gain colr-gain ispe-tone pixi-tone colr-tone : Role
+  hvcC_colour ispe_tile ispe_whole colr_first pixi_colour hvcC_alpha pixi_alpha auxC_alpha colr_second irot imir clli : Role
+  hvcC_gain ispe_gain pixi_gain auxC_gain colr_gain ispe_tone pixi_tone colr_tone : Role
   deriving Discrete as Role-discrete
 
 -- the colour picture's
 abbrev pub colour_slots : GridDims → BitDepth → List ℕ → Colour → List (Role × List Box)
 colour_slots d depth hvcc c =
-    (hvcC-colour, hvcC hvcc ∷ [])
-    ∷ (ispe-tile, ispe d.tile_w d.tile_h ∷ [])
-    ∷ (ispe-whole, ispe d.full_w d.full_h ∷ [])
-    ∷ (colr-first, box "colr" (first_colr c.cicp c.icc) ∷ [])
-    ∷ (pixi-colour, pixi 3 (bits depth) ∷ [])
+    (hvcC_colour, hvcC hvcc ∷ [])
+    ∷ (ispe_tile, ispe d.tile_w d.tile_h ∷ [])
+    ∷ (ispe_whole, ispe d.full_w d.full_h ∷ [])
+    ∷ (colr_first, box "colr" (first_colr c.cicp c.icc) ∷ [])
+    ∷ (pixi_colour, pixi 3 (bits depth) ∷ [])
     ∷ []
 
 -- the alpha picture's
 abbrev pub alpha_slots : BitDepth → List ℕ → List (Role × List Box)
-alpha_slots depth hvcc = (hvcC-alpha, hvcC hvcc ∷ []) ∷ (pixi-alpha, pixi 1 (bits depth) ∷ []) ∷ (auxC-alpha, auxC "urn:mpeg:hevc:2015:auxid:1" ∷ []) ∷ []
+alpha_slots depth hvcc = (hvcC_alpha, hvcC hvcc ∷ []) ∷ (pixi_alpha, pixi 1 (bits depth) ∷ []) ∷ (auxC_alpha, auxC "urn:mpeg:hevc:2015:auxid:1" ∷ []) ∷ []
 
 -- those that may be absent
 abbrev pub option_slots : Colour → Orientation → Option ContentLightLevel → List (Role × List Box)
 option_slots c o light =
-    (colr-second, optional "colr" (second_colr c.cicp c.icc))
+    (colr_second, optional "colr" (second_colr c.cicp c.icc))
     ∷ (irot, optional "irot" (irot_payload (irot_steps o)))
     ∷ (imir, optional "imir" (imir_payload (imir_axis o)))
     ∷ (clli, optional "clli" (clli_payload light))
@@ -54,17 +54,17 @@ option_slots c o light =
 -- the gain image's
 abbrev pub image_slots : List ℕ → ℕ → ℕ → BitDepth → Cicp → List (Role × List Box)
 image_slots hvcc w h depth cicp =
-    (hvcC-gain, hvcC hvcc ∷ [])
-    ∷ (ispe-gain, ispe w h ∷ [])
-    ∷ (pixi-gain, pixi 1 (bits depth) ∷ [])
-    ∷ (auxC-gain, auxC "urn:com:apple:photo:2020:aux:hdrgainmap" ∷ [])
-    ∷ (colr-gain, box "colr" (nclx_payload cicp) ∷ [])
+    (hvcC_gain, hvcC hvcc ∷ [])
+    ∷ (ispe_gain, ispe w h ∷ [])
+    ∷ (pixi_gain, pixi 1 (bits depth) ∷ [])
+    ∷ (auxC_gain, auxC "urn:com:apple:photo:2020:aux:hdrgainmap" ∷ [])
+    ∷ (colr_gain, box "colr" (nclx_payload cicp) ∷ [])
     ∷ []
 
 -- the tone map's, where there is one, with its size and its depth
 abbrev pub tone_slots : Box → Box → Option (List ℕ) → Option Colour → List (Role × List Box)
 tone_slots size depth none alternate = []
-tone_slots size depth (some t) alternate = (ispe-tone, size ∷ []) ∷ (pixi-tone, depth ∷ []) ∷ (colr-tone, alternates alternate) ∷ []
+tone_slots size depth (some t) alternate = (ispe_tone, size ∷ []) ∷ (pixi_tone, depth ∷ []) ∷ (colr_tone, alternates alternate) ∷ []
 
 -- those of both, where there is a gain map
 abbrev pub gain_slots : Box → Box → Option Gain → List (Role × List Box)

@@ -46,22 +46,22 @@ abbrev pub turns : (Ipco.Role → List ℕ) → List ℕ
 turns its = essential (its Ipco.irot) ‖ essential (its Ipco.imir)
 
 abbrev pub colour_tile_list : (Ipco.Role → List ℕ) → List ℕ
-colour_tile_list its = essential (its Ipco.hvcC-colour) ‖ essential (its Ipco.ispe-tile) ‖ essential (its Ipco.colr-first)
+colour_tile_list its = essential (its Ipco.hvcC_colour) ‖ essential (its Ipco.ispe_tile) ‖ essential (its Ipco.colr_first)
 
 abbrev pub colour_grid_list : (Ipco.Role → List ℕ) → List ℕ
-colour_grid_list its = its Ipco.ispe-whole ‖ essential (its Ipco.colr-first) ‖ its Ipco.pixi-colour ‖ its Ipco.colr-second ‖ its Ipco.clli ‖ turns its
+colour_grid_list its = its Ipco.ispe_whole ‖ essential (its Ipco.colr_first) ‖ its Ipco.pixi_colour ‖ its Ipco.colr_second ‖ its Ipco.clli ‖ turns its
 
 abbrev pub alpha_tile_list : (Ipco.Role → List ℕ) → List ℕ
-alpha_tile_list its = essential (its Ipco.hvcC-alpha) ‖ essential (its Ipco.ispe-tile)
+alpha_tile_list its = essential (its Ipco.hvcC_alpha) ‖ essential (its Ipco.ispe_tile)
 
 abbrev pub alpha_grid_list : (Ipco.Role → List ℕ) → List ℕ
-alpha_grid_list its = its Ipco.ispe-whole ‖ its Ipco.pixi-alpha ‖ its Ipco.auxC-alpha ‖ turns its
+alpha_grid_list its = its Ipco.ispe_whole ‖ its Ipco.pixi_alpha ‖ its Ipco.auxC_alpha ‖ turns its
 
 abbrev pub image_list : (Ipco.Role → List ℕ) → List ℕ
-image_list its = essential (its Ipco.hvcC-gain) ‖ its Ipco.ispe-gain ‖ its Ipco.pixi-gain ‖ its Ipco.auxC-gain ‖ its Ipco.colr-gain ‖ turns its
+image_list its = essential (its Ipco.hvcC_gain) ‖ its Ipco.ispe_gain ‖ its Ipco.pixi_gain ‖ its Ipco.auxC_gain ‖ its Ipco.colr_gain ‖ turns its
 
 abbrev pub tone_list : (Ipco.Role → List ℕ) → List ℕ
-tone_list its = its Ipco.ispe-tone ‖ its Ipco.pixi-tone ‖ its Ipco.colr-tone
+tone_list its = its Ipco.ispe_tone ‖ its Ipco.pixi_tone ‖ its Ipco.colr_tone
 
 -- ---- the items by rising id: the colour picture's, the alpha picture's, the gain map's
 

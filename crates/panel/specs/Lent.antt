@@ -16,10 +16,10 @@ pub record Lent : Type 0 where
 
 -- in the order of a call's parameters
 abbrev pub in_order : List ℕ → List ℕ → List ℕ → List ℕ → List ℕ → List ℕ → List ℕ → List ℕ → List ℕ → List ℕ → List ℕ → List ℕ → List ℕ → Lent
-in_order color_hvcc alpha_hvcc color-lengths alpha-lengths color_samples alpha_samples icc exif gain_hvcc gain_sample gain_xmp gain_tmap alternate_icc =
+in_order color_hvcc alpha_hvcc color_lengths alpha_lengths color_samples alpha_samples icc exif gain_hvcc gain_sample gain_xmp gain_tmap alternate_icc =
     record {
-      tiles = record { hvcc = color_hvcc; lengths = color-lengths; bytes = color_samples };
-      alpha = record { hvcc = alpha_hvcc; lengths = alpha-lengths; bytes = alpha_samples };
+      tiles = record { hvcc = color_hvcc; lengths = color_lengths; bytes = color_samples };
+      alpha = record { hvcc = alpha_hvcc; lengths = alpha_lengths; bytes = alpha_samples };
       icc = icc;
       exif = exif;
       gain_hvcc = gain_hvcc;
@@ -31,5 +31,5 @@ in_order color_hvcc alpha_hvcc color-lengths alpha-lengths color_samples alpha_s
 
 -- all of them, as a call is lent them
 unfoldable pub lent : List ℕ → List ℕ → List ℕ → List ℕ → List ℕ → List ℕ → List ℕ → List ℕ → List ℕ → List ℕ → List ℕ → List ℕ → List ℕ → Lent
-lent color_hvcc alpha_hvcc color-lengths alpha-lengths color_samples alpha_samples icc exif gain_hvcc gain_sample gain_xmp gain_tmap alternate_icc =
-    in_order color_hvcc alpha_hvcc color-lengths alpha-lengths color_samples alpha_samples icc exif gain_hvcc gain_sample gain_xmp gain_tmap alternate_icc
+lent color_hvcc alpha_hvcc color_lengths alpha_lengths color_samples alpha_samples icc exif gain_hvcc gain_sample gain_xmp gain_tmap alternate_icc =
+    in_order color_hvcc alpha_hvcc color_lengths alpha_lengths color_samples alpha_samples icc exif gain_hvcc gain_sample gain_xmp gain_tmap alternate_icc

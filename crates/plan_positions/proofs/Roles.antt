@@ -63,17 +63,17 @@ alternate_boxes (some g) = cond (has g.tone) (length (alternates g.alternate)) 0
 -- ---- the tone map's roles, from n on
 
 module _ (n : ℕ) (size depth : Box) where
-  ispe-toned : (t : Option (List ℕ)) (a : Option Colour) → ids_from n (cond (has t) 1 0) ≡ positions n (Ipco.tone_slots size depth t a) Ipco.ispe-tone
+  ispe-toned : (t : Option (List ℕ)) (a : Option Colour) → ids_from n (cond (has t) 1 0) ≡ positions n (Ipco.tone_slots size depth t a) Ipco.ispe_tone
   ispe-toned none a = refl
   ispe-toned (some t) a = refl
 
   pixi-toned : (t : Option (List ℕ)) (a : Option Colour)
-      → ids_from (n + cond (has t) 1 0) (cond (has t) 1 0) ≡ positions n (Ipco.tone_slots size depth t a) Ipco.pixi-tone
+      → ids_from (n + cond (has t) 1 0) (cond (has t) 1 0) ≡ positions n (Ipco.tone_slots size depth t a) Ipco.pixi_tone
   pixi-toned none a = refl
   pixi-toned (some t) a = refl
 
   colr-toned : (t : Option (List ℕ)) (a : Option Colour)
-      → ids_from (n + cond (has t) 1 0 + cond (has t) 1 0) (cond (has t) (length (alternates a)) 0) ≡ positions n (Ipco.tone_slots size depth t a) Ipco.colr-tone
+      → ids_from (n + cond (has t) 1 0 + cond (has t) 1 0) (cond (has t) (length (alternates a)) 0) ≡ positions n (Ipco.tone_slots size depth t a) Ipco.colr_tone
   colr-toned none a = refl
   colr-toned (some t) a = refl
 
@@ -82,34 +82,34 @@ module _ (n : ℕ) (size depth : Box) where
 in_role : (p : Panel) (g : Option Gain) (r : Ipco.Role)
     → its_of (laid (second_colrs p) (irots p) (imirs p) (cllis p) (cond (has g) 1 0) (cond (has (tone_of g)) 1 0) (alternate_boxes g)) r ≡ positions 1 (Ipco.slots (with_gain p g)) r
 unfolding its_of
-in_role p g Ipco.hvcC-colour = refl
-in_role p g Ipco.ispe-tile = refl
-in_role p g Ipco.ispe-whole = refl
-in_role p g Ipco.colr-first = refl
-in_role p g Ipco.pixi-colour = refl
-in_role p g Ipco.hvcC-alpha = refl
-in_role p g Ipco.pixi-alpha = refl
-in_role p g Ipco.auxC-alpha = refl
-in_role p g Ipco.colr-second = refl
+in_role p g Ipco.hvcC_colour = refl
+in_role p g Ipco.ispe_tile = refl
+in_role p g Ipco.ispe_whole = refl
+in_role p g Ipco.colr_first = refl
+in_role p g Ipco.pixi_colour = refl
+in_role p g Ipco.hvcC_alpha = refl
+in_role p g Ipco.pixi_alpha = refl
+in_role p g Ipco.auxC_alpha = refl
+in_role p g Ipco.colr_second = refl
 in_role p g Ipco.irot = refl
 in_role p g Ipco.imir = refl
 in_role p g Ipco.clli = refl
-in_role p none Ipco.hvcC-gain = refl
-in_role p (some g) Ipco.hvcC-gain = refl
-in_role p none Ipco.ispe-gain = refl
-in_role p (some g) Ipco.ispe-gain = refl
-in_role p none Ipco.pixi-gain = refl
-in_role p (some g) Ipco.pixi-gain = refl
-in_role p none Ipco.auxC-gain = refl
-in_role p (some g) Ipco.auxC-gain = refl
-in_role p none Ipco.colr-gain = refl
-in_role p (some g) Ipco.colr-gain = refl
-in_role p none Ipco.ispe-tone = refl
-in_role p (some g) Ipco.ispe-tone = ispe-toned _ _ _ g.tone g.alternate
-in_role p none Ipco.pixi-tone = refl
-in_role p (some g) Ipco.pixi-tone = pixi-toned _ _ _ g.tone g.alternate
-in_role p none Ipco.colr-tone = refl
-in_role p (some g) Ipco.colr-tone = colr-toned _ _ _ g.tone g.alternate
+in_role p none Ipco.hvcC_gain = refl
+in_role p (some g) Ipco.hvcC_gain = refl
+in_role p none Ipco.ispe_gain = refl
+in_role p (some g) Ipco.ispe_gain = refl
+in_role p none Ipco.pixi_gain = refl
+in_role p (some g) Ipco.pixi_gain = refl
+in_role p none Ipco.auxC_gain = refl
+in_role p (some g) Ipco.auxC_gain = refl
+in_role p none Ipco.colr_gain = refl
+in_role p (some g) Ipco.colr_gain = refl
+in_role p none Ipco.ispe_tone = refl
+in_role p (some g) Ipco.ispe_tone = ispe-toned _ _ _ g.tone g.alternate
+in_role p none Ipco.pixi_tone = refl
+in_role p (some g) Ipco.pixi_tone = pixi-toned _ _ _ g.tone g.alternate
+in_role p none Ipco.colr_tone = refl
+in_role p (some g) Ipco.colr_tone = colr-toned _ _ _ g.tone g.alternate
 
 -- ---- how many
 

@@ -7,26 +7,26 @@ use Rattle.plan_runs.specs.GainMap.{NarrowImage, NarrowTone}
 use Rattle.plan_runs.specs.declared.Places.{Places}
 
 unfoldable pub its_of : Places → Ipco.Role → List ℕ
-its_of y Ipco.hvcC-colour = places y.color.hvcc
-its_of y Ipco.ispe-tile = places y.color.ispe_tile
-its_of y Ipco.ispe-whole = places y.color.ispe_full
-its_of y Ipco.colr-first = places y.color.colr
-its_of y Ipco.pixi-colour = places y.color.pixi
-its_of y Ipco.hvcC-alpha = places y.alpha.hvcc
-its_of y Ipco.pixi-alpha = places y.alpha.pixi
-its_of y Ipco.auxC-alpha = places y.alpha.auxc
-its_of y Ipco.colr-second = places y.options.colr
+its_of y Ipco.hvcC_colour = places y.color.hvcc
+its_of y Ipco.ispe_tile = places y.color.ispe_tile
+its_of y Ipco.ispe_whole = places y.color.ispe_full
+its_of y Ipco.colr_first = places y.color.colr
+its_of y Ipco.pixi_colour = places y.color.pixi
+its_of y Ipco.hvcC_alpha = places y.alpha.hvcc
+its_of y Ipco.pixi_alpha = places y.alpha.pixi
+its_of y Ipco.auxC_alpha = places y.alpha.auxc
+its_of y Ipco.colr_second = places y.options.colr
 its_of y Ipco.irot = places y.options.irot
 its_of y Ipco.imir = places y.options.imir
 its_of y Ipco.clli = places y.options.clli
-its_of y Ipco.hvcC-gain = places y.image.hvcc
-its_of y Ipco.ispe-gain = places y.image.ispe
-its_of y Ipco.pixi-gain = places y.image.pixi
-its_of y Ipco.auxC-gain = places y.image.auxc
-its_of y Ipco.colr-gain = places y.image.colr
-its_of y Ipco.ispe-tone = places y.tone.ispe
-its_of y Ipco.pixi-tone = places y.tone.pixi
-its_of y Ipco.colr-tone = places y.tone.colr
+its_of y Ipco.hvcC_gain = places y.image.hvcc
+its_of y Ipco.ispe_gain = places y.image.ispe
+its_of y Ipco.pixi_gain = places y.image.pixi
+its_of y Ipco.auxC_gain = places y.image.auxc
+its_of y Ipco.colr_gain = places y.image.colr
+its_of y Ipco.ispe_tone = places y.tone.ispe
+its_of y Ipco.pixi_tone = places y.tone.pixi
+its_of y Ipco.colr_tone = places y.tone.colr
 
 -- each leaves the highest bit free
 pub record NarrowPlaces (y : Places) : Type 0 where

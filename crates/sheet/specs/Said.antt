@@ -54,10 +54,10 @@ maybe_gain_said s p (G.Some g) = some (gain_said s p g)
 
 -- the byte parts of a sheet that is read
 abbrev pub lent_said : List ℕ → SheetRead → List ℕ → List ℕ → Lent
-lent_said s r color-lengths alpha-lengths =
+lent_said s r color_lengths alpha_lengths =
     record {
-      tiles = record { hvcc = span_of s r.pictures.color_hvcc; lengths = color-lengths; bytes = span_of s r.pictures.color_samples };
-      alpha = record { hvcc = span_of s r.pictures.alpha_hvcc; lengths = alpha-lengths; bytes = span_of s r.pictures.alpha_samples };
+      tiles = record { hvcc = span_of s r.pictures.color_hvcc; lengths = color_lengths; bytes = span_of s r.pictures.color_samples };
+      alpha = record { hvcc = span_of s r.pictures.alpha_hvcc; lengths = alpha_lengths; bytes = span_of s r.pictures.alpha_samples };
       icc = span_of s r.icc;
       exif = span_of s r.exif;
       gain_hvcc = span_of s r.gain.hvcc;

@@ -24,22 +24,22 @@ unfoldable pub two_pictures : ℕ → Reader Pictures
 two_pictures n =
     string then λ colour_hvcc.
     string then λ alpha_hvcc.
-    lengths n then λ colour-lengths.
-    lengths n then λ alpha-lengths.
-    bytes (total colour-lengths) then λ colour_bytes.
-    bytes (total alpha-lengths) then λ alpha_bytes.
+    lengths n then λ colour_lengths.
+    lengths n then λ alpha_lengths.
+    bytes (total colour_lengths) then λ colour_bytes.
+    bytes (total alpha_lengths) then λ alpha_bytes.
     give (record {
-      colour = record { hvcc = colour_hvcc; lengths = colour-lengths; bytes = colour_bytes };
-      alpha = record { hvcc = alpha_hvcc; lengths = alpha-lengths; bytes = alpha_bytes };
+      colour = record { hvcc = colour_hvcc; lengths = colour_lengths; bytes = colour_bytes };
+      alpha = record { hvcc = alpha_hvcc; lengths = alpha_lengths; bytes = alpha_bytes };
     })
 
 -- ---- then only fields whose bit stands, lowest first
 
 -- code points, and a profile
 unfoldable pub colour : Bool → Bool → Reader Colour
-colour has-cicp has-icc =
-    optional has-cicp cicp then λ c.
-    optional has-icc string then λ icc.
+colour has_cicp has_icc =
+    optional has_cicp cicp then λ c.
+    optional has_icc string then λ icc.
     give (record { cicp = c; icc = icc })
 
 -- Normal if its bit is off

@@ -159,9 +159,9 @@ both_pictures n =
 pub record ShortColour (c : Colour) : Type 0 where
   pub icc : Of Short c.icc
 
-a-colour : (has-cicp has-icc : Bool) → Yields (colour has-cicp has-icc) ShortColour
+a-colour : (has_cicp has_icc : Bool) → Yields (colour has_cicp has_icc) ShortColour
 unfolding colour
-a-colour has-cicp has-icc = seq _ (maybe has-cicp a-cicp) (λ c h. seq _ (maybe has-icc a-string) (λ i hi. gives (record { icc = hi })))
+a-colour has_cicp has_icc = seq _ (maybe has_cicp a-cicp) (λ c h. seq _ (maybe has_icc a-string) (λ i hi. gives (record { icc = hi })))
 
 pub record ShortMetadata (m : Metadata) : Type 0 where
   pub exif : Of Short m.exif
