@@ -28,7 +28,7 @@ not_ours=(
     Option 'Option<bool>' TryFrom io::Write  # types of Rust's, and traits
     .antt abbrev unfoldable          # an ending, and words of antt
     .old .new result                 # of a contract: what was lent, before and after, and the answer
-    rt must-fail selftest bin        # the kit's command and its folder
+    rt must-fail selftest bin staticlib  # the kit's command, its folder, and a word of crates.txt
     git status flock setsid          # commands, with options of theirs
     pkg-config --libs --modversion cargo doc --open
     libkahopiru.a                    # what is built
