@@ -6,7 +6,7 @@ use Rattle.panel_codes.proofs.depth_named.Goals as goal
 
 pub returns-in_default : goal.returns-in_default
 unfolding every_depth
-returns-in_default c = depth_misses _ c.in_default.in_default-own.rest
+returns-in_default c = depth_misses c.args.code (search rules)
 
 pub returns-in-0 : goal.returns-in-0
 returns-in-0 c = depth_finds _ _ (search rules)

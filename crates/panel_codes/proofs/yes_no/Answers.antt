@@ -6,7 +6,7 @@ use Rattle.panel_codes.proofs.yes_no.Goals as goal
 
 pub returns-in_default : goal.returns-in_default
 unfolding every_bool
-returns-in_default c = bool_misses _ c.in_default.in_default-own.rest
+returns-in_default c = bool_misses c.args.code (search rules)
 
 pub returns-in-0 : goal.returns-in-0
 returns-in-0 c = bool_finds _ _ (search rules)

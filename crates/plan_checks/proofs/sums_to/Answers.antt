@@ -11,7 +11,7 @@ use Rattle.plan_checks.proofs.sums_to.Goals as goal
 
 pub overflow_cast-n : goal.overflow_cast-n
 overflow_cast-n c =
-    omega (arith, c.shared_slice_known-1.given c.loop-i.i)
+    omega (arith, c.type_inv.lengths c.loop-i.i)
 
 pub returns-then-sum-s : goal.returns-then-sum-s
 returns-then-sum-s c =

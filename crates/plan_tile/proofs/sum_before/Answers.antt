@@ -18,7 +18,7 @@ pub bounds-lengths-i : goal.bounds-lengths-i
 bounds-lengths-i c = search rules
 
 pub overflow_cast-sum : goal.overflow_cast-sum
-overflow_cast-sum c = omega (arith, c.shared_slice_known-1.given c.loop-i.i)
+overflow_cast-sum c = omega (arith, c.type_inv.lengths c.loop-i.i)
 
 pub overflow_add-sum : goal.overflow_add-sum
 overflow_add-sum c =

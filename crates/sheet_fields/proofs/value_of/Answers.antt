@@ -18,13 +18,13 @@ pub bounds-x-i : goal.bounds-x-i
 bounds-x-i c = search rules
 
 pub overflow_cast-v : goal.overflow_cast-v
-overflow_cast-v c = omega (arith, c.shared_slice_known-1.given c.loop-i.i)
+overflow_cast-v c = omega (arith, c.type_inv.x c.loop-i.i)
 
 pub overflow_add-v : goal.overflow_add-v
 overflow_add-v c =
     let i = c.loop-i.i in
     let x = c.args.x.now in
-    let h = within {i = i + 1} {k = 4} (omega arith) (below_step {b = get_or x i 0} i c.loop-i.invariant.2 (omega (arith, c.shared_slice_known-1.given i))) in
+    let h = within {i = i + 1} {k = 4} (omega arith) (below_step {b = get_or x i 0} i c.loop-i.invariant.2 (omega (arith, c.type_inv.x i))) in
     omega arith
 
 pub overflow_add-i : goal.overflow_add-i
@@ -37,7 +37,7 @@ pub loop-i-preserved : goal.loop-i-preserved
 loop-i-preserved c =
     let i = c.loop-i.i in
     let x = c.args.x.now in
-    (omega arith, omega (arith, value-step x i c.loop-i-test.true), below_step {b = get_or x i 0} i c.loop-i.invariant.2 (omega (arith, c.shared_slice_known-1.given i)))
+    (omega arith, omega (arith, value-step x i c.loop-i-test.true), below_step {b = get_or x i 0} i c.loop-i.invariant.2 (omega (arith, c.type_inv.x i)))
 
 pub returns : goal.returns
 returns c =

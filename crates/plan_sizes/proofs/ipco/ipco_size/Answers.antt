@@ -18,5 +18,5 @@ returns c =
           (exact {k = 133 + 9 * z.options.irot.count + 9 * z.options.imir.count + 12 * z.options.clli.count} ⊕ m.color_hvcc ⊕ m.alpha_hvcc ⊕ c.colr_size.ensures.by_index l.icc m.icc ⊕ c.secondary_colr_size.ensures.by_index l.icc m.icc ⊕ c.gain_properties_size.ensures.capped l m.gain.hvcc m.gain.icc)
           (omega (arith, k, all_placed p z h, irot-placed p z h, imir-placed p z h, clli-placed p z h))
           (omega (arith, irot-placed p z h, imir-placed p z h, clli-placed p z h));
-      upper_bound = omega (arith, c.requires.count_bound, c.struct_known-2-1.given, c.struct_known-3-1.given, c.colr_size.ensures.upper_bound, c.secondary_colr_size.ensures.upper_bound, c.turns_and_clli_size.ensures.upper_bound, c.gain_properties_size.ensures.upper_bound);
+      upper_bound = omega (arith, c.requires.count_bound, c.colr_size.ensures.upper_bound, c.secondary_colr_size.ensures.upper_bound, c.turns_and_clli_size.ensures.upper_bound, c.gain_properties_size.ensures.upper_bound);
     }

@@ -1,4 +1,5 @@
 -- Each arm gives the variant with that code; a code that no arm has is that of no variant.
+use borrow.Author.Rules.{rules}
 use mathlib.Core.Path.{sym}
 use Rattle.panel.proofs.Codes.{matrix_finds, matrix_misses}
 use Rattle.panel.proofs.color.MatrixCoefficients.from_code.Goals as goal
@@ -58,4 +59,4 @@ pub returns-in-17 : goal.returns-in-17
 returns-in-17 c = matrix_finds c.args.code _ (sym c.in-17.is)
 
 pub returns-in_default : goal.returns-in_default
-returns-in_default c = matrix_misses c.args.code c.in_default.in_default-own.rest
+returns-in_default c = matrix_misses c.args.code (search rules)

@@ -1,4 +1,5 @@
 -- Each arm gives the variant with that code; a code that no arm has is that of no variant.
+use borrow.Author.Rules.{rules}
 use mathlib.Core.Path.{sym}
 use Rattle.panel.proofs.Codes.{primaries_finds, primaries_misses}
 use Rattle.panel.proofs.color.Primaries.from_code.Goals as goal
@@ -43,4 +44,4 @@ pub returns-in-22 : goal.returns-in-22
 returns-in-22 c = primaries_finds c.args.code _ (sym c.in-22.is)
 
 pub returns-in_default : goal.returns-in_default
-returns-in_default c = primaries_misses c.args.code c.in_default.in_default-own.rest
+returns-in_default c = primaries_misses c.args.code (search rules)

@@ -1,4 +1,5 @@
 -- Each arm gives the variant with that code; a code that no arm has is that of no variant.
+use borrow.Author.Rules.{rules}
 use mathlib.Core.Path.{sym}
 use Rattle.panel.proofs.Codes.{transfer_finds, transfer_misses}
 use Rattle.panel.proofs.color.TransferFunction.from_code.Goals as goal
@@ -58,4 +59,4 @@ pub returns-in-18 : goal.returns-in-18
 returns-in-18 c = transfer_finds c.args.code _ (sym c.in-18.is)
 
 pub returns-in_default : goal.returns-in_default
-returns-in_default c = transfer_misses c.args.code c.in_default.in_default-own.rest
+returns-in_default c = transfer_misses c.args.code (search rules)
