@@ -25,9 +25,10 @@ not_ours=(
     card.heic card.png film.png whole.png
     application/rdf                  # the content type of XMP, up to its +
     requires ensures pub mod mut     # words of Rattle
-    Option 'Option<bool>' TryFrom io::Write  # types of Rust's, and traits
+    Option None TryFrom io::Write    # types of Rust's, and traits
+    impl Model                       # a type's model, of the kit
     .antt abbrev unfoldable          # an ending, and words of antt
-    .old .new result                 # of a contract: what was lent, before and after, and the answer
+    .old .new panel.now result       # of a contract: what was lent, before, after or throughout, and the answer
     rt must-fail selftest bin staticlib  # the kit's command, its folder, and a word of crates.txt
     git status flock setsid          # commands, with options of theirs
     pkg-config --libs --modversion cargo doc --open
@@ -47,7 +48,7 @@ defined() {
         }' {} +
     find crates bindings tests \( -name '*.rt' -o -name '*.rs' \) -exec awk '
         /^ *\/\// { next }
-        match($0, /(fn|struct|enum|const|type) +[A-Za-z_0-9]+/) { split(substr($0, RSTART, RLENGTH), word, / +/); print word[2], FILENAME }
+        match($0, /(fn|struct|enum|trait|const|type) +[A-Za-z_0-9]+/) { split(substr($0, RSTART, RLENGTH), word, / +/); print word[2], FILENAME }
         /^ *(pub )?enum .*\{$/ { variants = 1; next }
         /^ *\}/ { variants = 0 }
         variants && match($0, /^ *[A-Z][A-Za-z0-9]*/) { name = substr($0, 1, RLENGTH); gsub(/ /, "", name); print name, FILENAME }' {} +

@@ -1,3 +1,1 @@
-pub mod Values
-pub mod Known
-pub mod Numbers
+pub mod Codes

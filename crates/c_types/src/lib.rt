@@ -1,13 +1,14 @@
-// What crosses to C: a panel as numbers and codes, and what a call answers; and what is read off a panel without looking a code up.
+// What crosses to C: a panel as numbers and codes, its byte parts, and what a call answers; and what is read off a panel without looking a
+// code up.
 #![tactic(auto)]
 
 ghost use Rattle.std.specs.Prelude.{◌≡◌};
 ghost use Rattle.panel.specs.Outcome.{refused};
-ghost use Rattle.c_types.specs.Told.{told};
+ghost use Rattle.c_types.specs.Told.{told, says_number};
 ghost use Rattle.c_types.specs.Plain.{dims_value, light_value};
 
-use panel::GridDims;
 use panel::metadata::ContentLightLevel;
+use panel::{GridDims, Tiles};
 
 // A colour encoding: three code points of ISO/IEC 23091-2, and 1 for the full range, else 0.
 #[repr(C)]
@@ -63,12 +64,41 @@ pub struct PanelCodes {
     pub gain: GainCodes,
 }
 
-// What a call answers: 0 and the file's length, or the number of the refusal and 0.
+// The byte parts of a panel that comes as codes. Those of an absent part are not looked at.
+#[derive(Clone, Copy)]
+pub struct LentParts<'a> {
+    pub color: Tiles<'a>,
+    pub alpha: Tiles<'a>,
+    pub icc: &'a [u8],
+    pub exif: &'a [u8],
+    pub gain_hvcc: &'a [u8],
+    pub gain_sample: &'a [u8],
+    pub gain_xmp: &'a [u8],
+    pub gain_tmap: &'a [u8],
+    pub alternate_icc: &'a [u8],
+}
+
+// What a call answers: 0 and the file's length, or the number of the refusal and 0. C has no Result.
 #[repr(C)]
 #[derive(Clone, Copy)]
 pub struct Told {
     pub refusal: u32,
     pub length: u64,
+}
+
+impl Told {
+    // A length, or the number of a refusal.
+    pub fn of(answer: Result<u64, u8>) -> Told
+        ensures { result ≡ told (says_number answer) }
+    {
+        match answer {
+            Ok(length) => Told { refusal: 0, length },
+            Err(number) => Told {
+                refusal: number as u32,
+                length: 0,
+            },
+        }
+    }
 }
 
 // The refusal of a code that stands for nothing.

@@ -1,7 +1,7 @@
 -- colr tells the colour that is stated, and an alternate one; and how many there are and how long.
 use mathlib.Core.Path.{◌≡◌, refl, sym, ap, ◌∙◌}
 use mathlib.Core.Bool.{Bool, true, false, cond}
-use mathlib.Core.Option.{Option, none, some}
+use Rattle.std.specs.Prelude.{Option, None, Some, is_some}
 use mathlib.Core.List.{List, [], ◌∷◌}
 use Prim.Native.Nat.{ℕ, ◌+◌}
 use native.Mathlib.Omega.{arith}
@@ -13,7 +13,6 @@ use Rattle.octets.proofs.Boxes.{body_at, length_none, length-boxes}
 use Rattle.panel.specs.Types.{primaries_code, transfer_code, matrix_code, unspecified}
 use Rattle.panel.specs.Panel.{Colour}
 use Rattle.panel.specs.Agreement.{stated, filled, shown}
-use Rattle.panel.specs.Parts.{has}
 use Rattle.panel.specs.declared.color.Cicp.{Cicp}
 use Rattle.panel.proofs.Parts.{some_inj, none-some}
 use Rattle.panel.proofs.Codes.{primaries_inj, transfer_inj, matrix_inj}
@@ -50,34 +49,34 @@ nclx_prof : (c : Cicp) (i : List ℕ) → nclx_payload c ≡ text "prof" ‖ i �
 nclx_prof c i e = let h : ◌≡◌ {A = ℕ} 110 112 = first_byte e in omega arith
 
 -- code points first, and a profile or none behind them
-both_inj : (c d : Cicp) (i j : Option (List ℕ)) → nclx_payload c ≡ nclx_payload d → second_colr (some c) i ≡ second_colr (some d) j
-    → ◌≡◌ {A = Colour} (record { cicp = some c; icc = i }) (record { cicp = some d; icc = j })
-both_inj c d none none e s = ap (λ (x : Cicp). record { cicp = some x; icc = none }) (nclx_inj c d e)
-both_inj c d none (some j) e s = absurd (none-some s)
-both_inj c d (some i) none e s = absurd (none-some (sym s))
-both_inj c d (some i) (some j) e s =
+both_inj : (c d : Cicp) (i j : Option (List ℕ)) → nclx_payload c ≡ nclx_payload d → second_colr (Some c) i ≡ second_colr (Some d) j
+    → ◌≡◌ {A = Colour} (record { cicp = Some c; icc = i }) (record { cicp = Some d; icc = j })
+both_inj c d None None e s = ap (λ (x : Cicp). record { cicp = Some x; icc = None }) (nclx_inj c d e)
+both_inj c d None (Some j) e s = absurd (none-some s)
+both_inj c d (Some i) None e s = absurd (none-some (sym s))
+both_inj c d (Some i) (Some j) e s =
     let x = nclx_inj c d e in
     let y = prof_inj i j (some_inj s) in
-    λ k. record { cicp = some (x k); icc = some (y k) }
+    λ k. record { cicp = Some (x k); icc = Some (y k) }
 
 pub colour_inj : (c d : Option Cicp) (i j : Option (List ℕ)) → first_colr c i ≡ first_colr d j → second_colr c i ≡ second_colr d j → stated c i ≡ stated d j
-colour_inj (some c) (some d) i j e s = both_inj c d i j e s
-colour_inj (some c) none i none e s = both_inj c unspecified i none e s
-colour_inj (some c) none i (some j) e s = absurd (nclx_prof c j e)
-colour_inj none (some d) none j e s = both_inj unspecified d none j e s
-colour_inj none (some d) (some i) j e s = absurd (nclx_prof d i (sym e))
-colour_inj none none none none e s = refl
-colour_inj none none none (some j) e s = absurd (nclx_prof unspecified j e)
-colour_inj none none (some i) none e s = absurd (nclx_prof unspecified i (sym e))
-colour_inj none none (some i) (some j) e s = ap (λ (x : List ℕ). stated none (some x)) (prof_inj i j e)
+colour_inj (Some c) (Some d) i j e s = both_inj c d i j e s
+colour_inj (Some c) None i None e s = both_inj c unspecified i None e s
+colour_inj (Some c) None i (Some j) e s = absurd (nclx_prof c j e)
+colour_inj None (Some d) None j e s = both_inj unspecified d None j e s
+colour_inj None (Some d) (Some i) j e s = absurd (nclx_prof d i (sym e))
+colour_inj None None None None e s = refl
+colour_inj None None None (Some j) e s = absurd (nclx_prof unspecified j e)
+colour_inj None None (Some i) None e s = absurd (nclx_prof unspecified i (sym e))
+colour_inj None None (Some i) (Some j) e s = ap (λ (x : List ℕ). stated None (Some x)) (prof_inj i j e)
 
 -- ---- alternate colour
 
 optional_inj : (a b : Option (List ℕ)) → optional "colr" a ≡ optional "colr" b → a ≡ b
-optional_inj none none e = refl
-optional_inj none (some y) e = absurd (omega (arith, ap length e))
-optional_inj (some x) none e = absurd (omega (arith, ap length e))
-optional_inj (some x) (some y) e = let b : box "colr" x ≡ box "colr" y = cc in ap some (ap (λ (c : Box). c.body) b)
+optional_inj None None e = refl
+optional_inj None (Some y) e = absurd (omega (arith, ap length e))
+optional_inj (Some x) None e = absurd (omega (arith, ap length e))
+optional_inj (Some x) (Some y) e = let b : box "colr" x ≡ box "colr" y = cc in ap Some (ap (λ (c : Box). c.body) b)
 
 tail_of : List Box → List Box
 tail_of [] = []
@@ -85,37 +84,37 @@ tail_of (b ∷ l) = l
 
 alternate_inj : (c d : Option Cicp) (i j : Option (List ℕ)) → alternate_colrs c i ≡ alternate_colrs d j → filled c i ≡ filled d j
 unfolding body_at tail_of
-alternate_inj (some c) (some d) i j e =
-    ap some (both_inj c d i j (ap (body_at 0) e) (optional_inj (second_colr (some c) i) (second_colr (some d) j) (ap tail_of e)))
-alternate_inj (some c) none i none e = absurd (omega (arith, ap length e))
-alternate_inj (some c) none i (some j) e = absurd (nclx_prof c j (ap (body_at 0) e))
-alternate_inj none (some d) none j e = absurd (omega (arith, ap length e))
-alternate_inj none (some d) (some i) j e = absurd (nclx_prof d i (sym (ap (body_at 0) e)))
-alternate_inj none none none none e = refl
-alternate_inj none none none (some j) e = absurd (omega (arith, ap length e))
-alternate_inj none none (some i) none e = absurd (omega (arith, ap length e))
-alternate_inj none none (some i) (some j) e = ap (λ (x : List ℕ). filled none (some x)) (prof_inj i j (ap (body_at 0) e))
+alternate_inj (Some c) (Some d) i j e =
+    ap Some (both_inj c d i j (ap (body_at 0) e) (optional_inj (second_colr (Some c) i) (second_colr (Some d) j) (ap tail_of e)))
+alternate_inj (Some c) None i None e = absurd (omega (arith, ap length e))
+alternate_inj (Some c) None i (Some j) e = absurd (nclx_prof c j (ap (body_at 0) e))
+alternate_inj None (Some d) None j e = absurd (omega (arith, ap length e))
+alternate_inj None (Some d) (Some i) j e = absurd (nclx_prof d i (sym (ap (body_at 0) e)))
+alternate_inj None None None None e = refl
+alternate_inj None None None (Some j) e = absurd (omega (arith, ap length e))
+alternate_inj None None (Some i) None e = absurd (omega (arith, ap length e))
+alternate_inj None None (Some i) (Some j) e = ap (λ (x : List ℕ). filled None (Some x)) (prof_inj i j (ap (body_at 0) e))
 
 -- no alternate colour is an empty one
 cicp_in : Option Colour → Option Cicp
-cicp_in none = none
-cicp_in (some a) = a.cicp
+cicp_in None = None
+cicp_in (Some a) = a.cicp
 
 icc_in : Option Colour → Option (List ℕ)
-icc_in none = none
-icc_in (some a) = a.icc
+icc_in None = None
+icc_in (Some a) = a.icc
 
 alternates_parts : (a : Option Colour) → alternates a ≡ alternate_colrs (cicp_in a) (icc_in a)
 unfolding cicp_in icc_in
-alternates_parts none = refl
-alternates_parts (some a) = refl
+alternates_parts None = refl
+alternates_parts (Some a) = refl
 
-shown_parts : (t : List ℕ) (a : Option Colour) → shown (some t) a ≡ filled (cicp_in a) (icc_in a)
+shown_parts : (t : List ℕ) (a : Option Colour) → shown (Some t) a ≡ filled (cicp_in a) (icc_in a)
 unfolding cicp_in icc_in
-shown_parts t none = refl
-shown_parts t (some a) = refl
+shown_parts t None = refl
+shown_parts t (Some a) = refl
 
-pub alternates_inj : (t u : List ℕ) (a b : Option Colour) → alternates a ≡ alternates b → shown (some t) a ≡ shown (some u) b
+pub alternates_inj : (t u : List ℕ) (a b : Option Colour) → alternates a ≡ alternates b → shown (Some t) a ≡ shown (Some u) b
 alternates_inj t u a b e =
     shown_parts t a
     ∙ alternate_inj (cicp_in a) (cicp_in b) (icc_in a) (icc_in b) (sym (alternates_parts a) ∙ e ∙ alternates_parts b)
@@ -124,36 +123,36 @@ alternates_inj t u a b e =
 -- ---- how many, and how many bytes
 
 pub length-first_colr : (c : Option Cicp) (i : Option (List ℕ)) → 8 + length (first_colr c i) ≡ first_colr_size c i
-length-first_colr (some c) i = refl
-length-first_colr none (some i) = omega arith
-length-first_colr none none = refl
+length-first_colr (Some c) i = refl
+length-first_colr None (Some i) = omega arith
+length-first_colr None None = refl
 
 pub length-second_colr : (c : Option Cicp) (i : Option (List ℕ)) → length (optional "colr" (second_colr c i)) ≡ second_colr_count c i
-length-second_colr (some c) none = refl
-length-second_colr (some c) (some i) = refl
-length-second_colr none i = refl
+length-second_colr (Some c) None = refl
+length-second_colr (Some c) (Some i) = refl
+length-second_colr None i = refl
 
 pub length-boxes-second_colr : (c : Option Cicp) (i : Option (List ℕ)) → length (boxes (optional "colr" (second_colr c i))) ≡ second_colr_size c i
-length-boxes-second_colr (some c) none = length_none
-length-boxes-second_colr (some c) (some i) = simp (length-boxes, length_none) (omega arith)
-length-boxes-second_colr none i = length_none
+length-boxes-second_colr (Some c) None = length_none
+length-boxes-second_colr (Some c) (Some i) = simp (length-boxes, length_none) (omega arith)
+length-boxes-second_colr None i = length_none
 
 pub length-alternates : (a : Option Colour) → length (alternates a) ≡ alternates_count a
-length-alternates none = refl
-length-alternates (some a) = stated a.cicp a.icc
+length-alternates None = refl
+length-alternates (Some a) = stated a.cicp a.icc
   where
-    stated : (c : Option Cicp) (i : Option (List ℕ)) → length (alternate_colrs c i) ≡ cond (has c) 1 0 + cond (has i) 1 0
-    stated (some c) none = refl
-    stated (some c) (some i) = refl
-    stated none (some i) = refl
-    stated none none = refl
+    stated : (c : Option Cicp) (i : Option (List ℕ)) → length (alternate_colrs c i) ≡ cond (is_some c) 1 0 + cond (is_some i) 1 0
+    stated (Some c) None = refl
+    stated (Some c) (Some i) = refl
+    stated None (Some i) = refl
+    stated None None = refl
 
 pub length-boxes-alternates : (a : Option Colour) → length (boxes (alternates a)) ≡ alternates_size a
-length-boxes-alternates none = length_none
-length-boxes-alternates (some a) = stated a.cicp a.icc
+length-boxes-alternates None = length_none
+length-boxes-alternates (Some a) = stated a.cicp a.icc
   where
     stated : (c : Option Cicp) (i : Option (List ℕ)) → length (boxes (alternate_colrs c i)) ≡ stated_size c i
-    stated (some c) none = simp (length-boxes, length_none)
-    stated (some c) (some i) = simp (length-boxes, length_none) (omega arith)
-    stated none (some i) = simp (length-boxes, length_none) (omega arith)
-    stated none none = length_none
+    stated (Some c) None = simp (length-boxes, length_none)
+    stated (Some c) (Some i) = simp (length-boxes, length_none) (omega arith)
+    stated None (Some i) = simp (length-boxes, length_none) (omega arith)
+    stated None None = length_none

@@ -1,7 +1,7 @@
 -- The length of imir; and irot and imir together tell the orientation.
 use mathlib.Core.Path.{◌≡◌, refl}
 use mathlib.Core.Bool.{Bool}
-use mathlib.Core.Option.{Option, none, some}
+use Rattle.std.specs.Prelude.{Option, None, Some}
 use mathlib.Core.List.{List, [], ◌∷◌}
 use Prim.Native.Nat.{ℕ, ◌+◌, ◌*◌}
 use lib.ListN.{length, get_or}
@@ -16,15 +16,15 @@ use Rattle.heif.specs.Irot.{irot_payload}
 use Rattle.heif.specs.Imir.{imir_payload, imir_size}
 
 pub length-boxes-imir : (a : Option Bool) → length (boxes (optional "imir" (imir_payload a))) ≡ imir_size a
-length-boxes-imir none = length_none
-length-boxes-imir (some a) = simp (length-boxes, length_none)
+length-boxes-imir None = length_none
+length-boxes-imir (Some a) = simp (length-boxes, length_none)
 
 -- ---- orientation
 
 -- the first byte, or d where there is none
 lead : ℕ → Option (List ℕ) → ℕ
-lead d none = d
-lead d (some x) = get_or x 0 0
+lead d None = d
+lead d (Some x) = get_or x 0 0
 
 turn_code : Orientation → ℕ
 turn_code o = 4 * lead 0 (irot_payload (irot_steps o)) + lead 2 (imir_payload (imir_axis o))
@@ -32,7 +32,7 @@ turn_code o = 4 * lead 0 (irot_payload (irot_steps o)) + lead 2 (imir_payload (i
 turn_table : List Orientation
 turn_table = Normal ∷ FlipH ∷ Rotate180 ∷ FlipV ∷ Transpose ∷ Rotate90 ∷ Transverse ∷ Rotate270 ∷ []
 
-turn_found : (o : Orientation) → named turn_code turn_table (turn_code o) ≡ some o
+turn_found : (o : Orientation) → named turn_code turn_table (turn_code o) ≡ Some o
 unfolding turn_code turn_table lead
 turn_found Normal = refl
 turn_found FlipH = refl

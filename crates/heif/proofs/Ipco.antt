@@ -1,6 +1,6 @@
 -- The boxes of slots, one list of them behind another; the depths that they tell; and the length of ipco: how long the boxes of each role are.
 use mathlib.Core.Path.{◌≡◌, refl, sym, ap, ◌∙◌}
-use mathlib.Core.Option.{Option, none, some}
+use Rattle.std.specs.Prelude.{Option, None, Some}
 use mathlib.Core.List.{List, [], ◌∷◌, append-nil, append_assoc}
 use Prim.Native.Nat.{ℕ}
 use native.Mathlib.Omega.{arith}
@@ -33,12 +33,12 @@ depths_told p q e = (pixi_inj 2 p.depth q.depth (ap (body_at 4) e), pixi_inj 0 p
 module _ (w h depth : ℕ) where
   length-boxes-tone_slots : (t : Option (List ℕ)) (a : Option Colour)
       → length (boxes (held (tone_slots (ispe w h) (pixi 3 depth) t a))) ≡ tone_properties_size t a
-  length-boxes-tone_slots none a = length_none
-  length-boxes-tone_slots (some t) a = simp (length-boxes, append-nil, length-boxes-alternates) (omega arith)
+  length-boxes-tone_slots None a = length_none
+  length-boxes-tone_slots (Some t) a = simp (length-boxes, append-nil, length-boxes-alternates) (omega arith)
 
   length-boxes-gain_slots : (g : Option Gain) → length (boxes (held (gain_slots (ispe w h) (pixi 3 depth) g))) ≡ gain_properties_size g
-  length-boxes-gain_slots none = length_none
-  length-boxes-gain_slots (some g) = simp (length-boxes, length-boxes-tone_slots) (omega arith)
+  length-boxes-gain_slots None = length_none
+  length-boxes-gain_slots (Some g) = simp (length-boxes, length-boxes-tone_slots) (omega arith)
 
 pub length-ipco : (p : Panel) → length (ipco p).body ≡ ipco_size p
 length-ipco p =

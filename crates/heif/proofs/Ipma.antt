@@ -1,7 +1,7 @@
 -- The length of ipma: how many items it names, and how many positions each; and its entries piece by piece.
 use mathlib.Core.Path.{◌≡◌, refl, sym, ap, ◌∙◌}
 use mathlib.Core.Bool.{Bool, true, false, cond}
-use mathlib.Core.Option.{Option, none, some}
+use Rattle.std.specs.Prelude.{Option, None, Some, is_some}
 use mathlib.Core.List.{List, [], ◌∷◌, ◌++◌, map, map-append, flat_map}
 use Prim.Native.Nat.{ℕ, ◌+◌, zero, suc, ◌*◌}
 use native.Mathlib.Omega.{arith}
@@ -13,7 +13,7 @@ use Rattle.octets.proofs.Lists.{total-append, flat_map-map, flat_map_one, flat_m
 use Rattle.octets.proofs.Numbers.{length-be}
 use Rattle.panel.specs.Panel.{Gain, Panel, Colour}
 use Rattle.panel.specs.Form.{Form}
-use Rattle.panel.specs.Parts.{has, given}
+use Rattle.panel.specs.Parts.{given}
 use Rattle.panel.specs.declared.Shape.{Shape}
 use Rattle.panel.proofs.Parts.{length-optional}
 use Rattle.heif.specs.Items.{shape, ids_from, colour_grid, alpha_tile, alpha_grid, gain_id, tone_id}
@@ -57,23 +57,23 @@ width_picture first (suc n) id l m {k} h = omega (arith, width_picture (suc firs
 -- of the tone map, wherever its positions begin
 width-tone : (id at : ℕ) (size depth : Box) (t : Option (List ℕ)) (a : Option Colour)
     → let its = positions at (tone_slots size depth t a) in
-    total (map width (given (has t) ((id with its Ipco.ispe_tone ‖ its Ipco.pixi_tone ‖ its Ipco.colr_tone) ∷ []))) ≡ cond (has t) (2 + alternates_count a) 0
-width-tone id at size depth none a = refl
-width-tone id at size depth (some t) a = simp (length-ids_from, length-alternates) (omega arith)
+    total (map width (given (is_some t) ((id with its Ipco.ispe_tone ‖ its Ipco.pixi_tone ‖ its Ipco.colr_tone) ∷ []))) ≡ cond (is_some t) (2 + alternates_count a) 0
+width-tone id at size depth None a = refl
+width-tone id at size depth (Some t) a = simp (length-ids_from, length-alternates) (omega arith)
 
 width-gain : (p : Panel) (g : Option Gain)
     → let q = with_gain p g in
     let its = positions 1 (slots q) in
     total (map width (gain_associations (shape q) its)) ≡ gain_association_count (length (turns its)) g
-width-gain p none = refl
-width-gain p (some g) = simp width-tone (omega arith)
+width-gain p None = refl
+width-gain p (Some g) = simp width-tone (omega arith)
 
 width-associations : (p : Panel) → total (map width (associations (shape p) (positions 1 (slots p)))) ≡ association_count p
 width-associations p =
     let its = positions 1 (slots p) in
     let s = shape p in
     let t : length (turns its) ≡ turn_count p.metadata.orientation = simp (length-append, length-map, length-ids_from, length-optional) in
-    let c : length (colour_grid_list its) ≡ 3 + second_colr_count p.colour.cicp p.colour.icc + cond (has p.metadata.light) 1 0 + length (turns its)
+    let c : length (colour_grid_list its) ≡ 3 + second_colr_count p.colour.cicp p.colour.icc + cond (is_some p.metadata.light) 1 0 + length (turns its)
     = simp (length-append, length-ids_from, length-second_colr, length-clli) (omega arith) in
     omega (
       arith,

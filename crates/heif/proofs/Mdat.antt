@@ -1,7 +1,7 @@
 -- The samples are made by their lengths and bytes, and make them; the payloads in mdat tell the Exif, and where its TIFF header is; and how many bytes they have.
 use mathlib.Core.Path.{◌≡◌, refl, sym, ap, ap₂, ◌∙◌}
 use mathlib.Core.Bool.{Bool, true, false, cond}
-use mathlib.Core.Option.{Option, none, some}
+use Rattle.std.specs.Prelude.{Option, None, Some, is_some, option_to_list}
 use mathlib.Core.List.{List, [], ◌∷◌, ◌++◌, map, map-append, flatten}
 use Prim.Native.Nat.{ℕ, suc, ◌+◌, ◌≤◌, ◌<◌}
 use native.Mathlib.Omega.{arith}
@@ -10,7 +10,7 @@ use lib.Seq.{length-take-le}
 use Rattle.octets.specs.Numbers.{◌‖◌, be, value, total, ◌begins_with◌}
 use Rattle.octets.proofs.Lists.{cancel, begins_front, begins_short, length-flatten, total-append}
 use Rattle.panel.specs.Panel.{Tiles, Panel, Gain}
-use Rattle.panel.specs.Parts.{has, listed, tone_of, long}
+use Rattle.panel.specs.Parts.{tone_of, long}
 use Rattle.heif.specs.Mdat.{samples, exif_marker, tiff_header_offset, exif_data_block, exif_payload, mdat, gain_payloads, exif_size, gain_data_size, mdat_size}
 use Rattle.heif.specs.Items.{Even}
 
@@ -52,12 +52,12 @@ cut_inj t u ht hu e =
 
 -- the payload tells the Exif: equal bytes behind the four
 pub exif_inj : (s t : Option (List ℕ)) {x y : List (List ℕ)} → length x ≡ length y → exif_payload s ‖ x ≡ exif_payload t ‖ y → (s ≡ t) × (x ≡ y)
-exif_inj none none n e = (refl, e)
-exif_inj none (some v) n e = absurd (omega (arith, ap length e))
-exif_inj (some u) none n e = absurd (omega (arith, ap length e))
-exif_inj (some u) (some v) n e =
+exif_inj None None n e = (refl, e)
+exif_inj None (Some v) n e = absurd (omega (arith, ap length e))
+exif_inj (Some u) None n e = absurd (omega (arith, ap length e))
+exif_inj (Some u) (Some v) n e =
     let w : exif_data_block u ≡ exif_data_block v = cc in
-    (ap some (cancel (be 4 (tiff_header_offset u)) (be 4 (tiff_header_offset v)) refl w).1, cc)
+    (ap Some (cancel (be 4 (tiff_header_offset u)) (be 4 (tiff_header_offset v)) refl w).1, cc)
 
 -- the marker, byte by byte
 abbrev marker_bytes : List ℕ
@@ -93,29 +93,29 @@ found_unmarked tiff h = rw (offset_unmarked tiff h)
 
 -- ---- how many payloads, and how many bytes
 
-pub length-exif_payload : (e : Option (List ℕ)) → length (exif_payload e) ≡ cond (has e) 1 0
-length-exif_payload none = refl
-length-exif_payload (some e) = refl
+pub length-exif_payload : (e : Option (List ℕ)) → length (exif_payload e) ≡ cond (is_some e) 1 0
+length-exif_payload None = refl
+length-exif_payload (Some e) = refl
 
-pub length-gain_payloads : (g : Option Gain) → length (gain_payloads g) ≡ cond (has g) 2 0 + cond (has (tone_of g)) 1 0
-length-gain_payloads none = refl
-length-gain_payloads (some g) = omega (arith, tone g.tone)
+pub length-gain_payloads : (g : Option Gain) → length (gain_payloads g) ≡ cond (is_some g) 2 0 + cond (is_some (tone_of g)) 1 0
+length-gain_payloads None = refl
+length-gain_payloads (Some g) = omega (arith, tone g.tone)
   where
-    tone : (t : Option (List ℕ)) → length (listed t) ≡ cond (has t) 1 0
-    tone none = refl
-    tone (some t) = refl
+    tone : (t : Option (List ℕ)) → length (option_to_list t) ≡ cond (is_some t) 1 0
+    tone None = refl
+    tone (Some t) = refl
 
 total-exif_payload : (e : Option (List ℕ)) → total (map length (exif_payload e)) ≡ exif_size e
-total-exif_payload none = refl
-total-exif_payload (some e) = omega arith
+total-exif_payload None = refl
+total-exif_payload (Some e) = omega arith
 
 total-gain_payloads : (g : Option Gain) → total (map length (gain_payloads g)) ≡ gain_data_size g
-total-gain_payloads none = refl
-total-gain_payloads (some g) = omega (arith, tone g.tone)
+total-gain_payloads None = refl
+total-gain_payloads (Some g) = omega (arith, tone g.tone)
   where
-    tone : (t : Option (List ℕ)) → total (map length (listed t)) ≡ long t
-    tone none = refl
-    tone (some t) = omega arith
+    tone : (t : Option (List ℕ)) → total (map length (option_to_list t)) ≡ long t
+    tone None = refl
+    tone (Some t) = omega arith
 
 pub length-mdat : (p : Panel) → Even p → length (mdat p).body ≡ mdat_size p
 length-mdat p h =

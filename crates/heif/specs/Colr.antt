@@ -1,11 +1,10 @@
 -- 14496-12, 12.1.5: colour information, by code points (nclx) or by an ICC profile (prof).
-use Rattle.std.specs.Prelude.{cond, List, [], ◌∷◌, ℕ, ◌+◌}
-use Rattle.std.proofs.Math.Option.{Option, none, some}
+use Rattle.std.specs.Prelude.{cond, List, [], ◌∷◌, ℕ, ◌+◌, Option, None, Some, is_some}
 use Rattle.octets.specs.Numbers.{◌‖◌, be, text}
 use Rattle.octets.specs.Boxes.{Box, box, optional}
 use Rattle.panel.specs.Types.{primaries_code, transfer_code, matrix_code, unspecified}
 use Rattle.panel.specs.Panel.{Colour}
-use Rattle.panel.specs.Parts.{has, long}
+use Rattle.panel.specs.Parts.{long}
 use Rattle.panel.specs.declared.color.Cicp.{Cicp}
 
 abbrev pub nclx_payload : Cicp → List ℕ
@@ -14,27 +13,27 @@ nclx_payload c =
 
 -- unstated colour is written as unspecified full-range
 abbrev pub first_colr : Option Cicp → Option (List ℕ) → List ℕ
-first_colr (some c) icc = nclx_payload c
-first_colr none (some i) = text "prof" ‖ i
-first_colr none none = nclx_payload unspecified
+first_colr (Some c) icc = nclx_payload c
+first_colr None (Some i) = text "prof" ‖ i
+first_colr None None = nclx_payload unspecified
 
 abbrev pub profile : Option (List ℕ) → Option (List ℕ)
-profile none = none
-profile (some i) = some (text "prof" ‖ i)
+profile None = None
+profile (Some i) = Some (text "prof" ‖ i)
 
 -- a profile beside code points
 abbrev pub second_colr : Option Cicp → Option (List ℕ) → Option (List ℕ)
-second_colr (some c) icc = profile icc
-second_colr none icc = none
+second_colr (Some c) icc = profile icc
+second_colr None icc = None
 
 -- an alternate colour writes what it states
 abbrev pub alternate_colrs : Option Cicp → Option (List ℕ) → List Box
-alternate_colrs (some c) icc = box "colr" (nclx_payload c) ∷ optional "colr" (profile icc)
-alternate_colrs none icc = optional "colr" (profile icc)
+alternate_colrs (Some c) icc = box "colr" (nclx_payload c) ∷ optional "colr" (profile icc)
+alternate_colrs None icc = optional "colr" (profile icc)
 
 abbrev pub alternates : Option Colour → List Box
-alternates none = []
-alternates (some a) = alternate_colrs a.cicp a.icc
+alternates None = []
+alternates (Some a) = alternate_colrs a.cicp a.icc
 
 -- ---- how many there are, and how many bytes they have, as whole boxes: 19 by code points, 12 and the profile by ICC
 
@@ -43,30 +42,30 @@ nclx_size = 19
 
 -- a profile, where it is present
 abbrev pub profile_size : Option (List ℕ) → ℕ
-profile_size icc = cond (has icc) 12 0 + long icc
+profile_size icc = cond (is_some icc) 12 0 + long icc
 
 abbrev pub first_colr_size : Option Cicp → Option (List ℕ) → ℕ
-first_colr_size (some c) icc = nclx_size
-first_colr_size none (some i) = profile_size (some i)
-first_colr_size none none = nclx_size
+first_colr_size (Some c) icc = nclx_size
+first_colr_size None (Some i) = profile_size (Some i)
+first_colr_size None None = nclx_size
 
 -- a profile beside code points
 abbrev pub second_colr_count : Option Cicp → Option (List ℕ) → ℕ
-second_colr_count (some c) icc = cond (has icc) 1 0
-second_colr_count none icc = 0
+second_colr_count (Some c) icc = cond (is_some icc) 1 0
+second_colr_count None icc = 0
 
 abbrev pub second_colr_size : Option Cicp → Option (List ℕ) → ℕ
-second_colr_size (some c) icc = profile_size icc
-second_colr_size none icc = 0
+second_colr_size (Some c) icc = profile_size icc
+second_colr_size None icc = 0
 
 abbrev pub alternates_count : Option Colour → ℕ
-alternates_count none = 0
-alternates_count (some a) = cond (has a.cicp) 1 0 + cond (has a.icc) 1 0
+alternates_count None = 0
+alternates_count (Some a) = cond (is_some a.cicp) 1 0 + cond (is_some a.icc) 1 0
 
 -- what an alternate colour states
 abbrev pub stated_size : Option Cicp → Option (List ℕ) → ℕ
-stated_size cicp icc = cond (has cicp) nclx_size 0 + profile_size icc
+stated_size cicp icc = cond (is_some cicp) nclx_size 0 + profile_size icc
 
 abbrev pub alternates_size : Option Colour → ℕ
-alternates_size none = 0
-alternates_size (some a) = stated_size a.cicp a.icc
+alternates_size None = 0
+alternates_size (Some a) = stated_size a.cicp a.icc

@@ -1,6 +1,5 @@
 -- 14496-12, 4.3: file type box.
-use Rattle.std.specs.Prelude.{Bool, cond, false, ◌&&◌, not, List, ℕ, ◌+◌}
-use Rattle.std.proofs.Math.Option.{Option, none, some}
+use Rattle.std.specs.Prelude.{Bool, cond, false, ◌&&◌, not, List, ℕ, ◌+◌, Option, None, Some}
 use Rattle.octets.specs.Numbers.{text, ◌‖◌, be}
 use Rattle.octets.specs.Boxes.{Box, box}
 use Rattle.panel.specs.Panel.{Gain, Panel}
@@ -14,8 +13,8 @@ brand r = cond r (text "heix") (text "heic")
 
 -- whether there is a gain map whose record is rext
 abbrev pub gain_rext : Option Gain → Bool
-gain_rext none = false
-gain_rext (some g) = rext g.hvcc
+gain_rext None = false
+gain_rext (Some g) = rext g.hvcc
 
 -- major brand, minor version 0, compatible brands. colour and gain: the record is rext
 abbrev pub ftyp : Bool → Bool → Bool → Box

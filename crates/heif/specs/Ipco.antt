@@ -1,11 +1,9 @@
 -- 23008-12, 9.3.1: item property container box, with the properties in their order.
-use Rattle.std.specs.Prelude.{cond, List, [], ◌∷◌, ℕ, max, ◌+◌}
-use Rattle.std.proofs.Math.Option.{Option, none, some}
+use Rattle.std.specs.Prelude.{cond, List, [], ◌∷◌, ℕ, max, ◌+◌, Option, None, Some, is_some}
 use Rattle.octets.specs.Numbers.{◌‖◌}
 use Rattle.octets.specs.Boxes.{Box, box, optional, boxes}
 use Rattle.panel.specs.Types.{bits, irot_steps, imir_axis}
 use Rattle.panel.specs.Panel.{Colour, Gain, Panel}
-use Rattle.panel.specs.Parts.{has}
 use Rattle.panel.specs.declared.GridDims.{GridDims}
 use Rattle.panel.specs.declared.fmt.BitDepth.{BitDepth}
 use Rattle.panel.specs.declared.color.Cicp.{Cicp}
@@ -63,13 +61,13 @@ image_slots hvcc w h depth cicp =
 
 -- the tone map's, where there is one, with its size and its depth
 abbrev pub tone_slots : Box → Box → Option (List ℕ) → Option Colour → List (Role × List Box)
-tone_slots size depth none alternate = []
-tone_slots size depth (some t) alternate = (ispe_tone, size ∷ []) ∷ (pixi_tone, depth ∷ []) ∷ (colr_tone, alternates alternate) ∷ []
+tone_slots size depth None alternate = []
+tone_slots size depth (Some t) alternate = (ispe_tone, size ∷ []) ∷ (pixi_tone, depth ∷ []) ∷ (colr_tone, alternates alternate) ∷ []
 
 -- those of both, where there is a gain map
 abbrev pub gain_slots : Box → Box → Option Gain → List (Role × List Box)
-gain_slots size depth none = []
-gain_slots size depth (some g) =
+gain_slots size depth None = []
+gain_slots size depth (Some g) =
     image_slots g.hvcc g.width g.height g.depth g.cicp ‖ tone_slots size depth g.tone g.alternate
 
 abbrev pub slots : Panel → List (Role × List Box)
@@ -98,16 +96,16 @@ image_properties_size hvcc = hvcC_size hvcc + ispe_size + pixi_size 1 + auxC_siz
 
 -- ispe, pixi and the alternate colours of the tone map, where there is one
 abbrev pub tone_properties_size : Option (List ℕ) → Option Colour → ℕ
-tone_properties_size tone alternate = cond (has tone) (ispe_size + pixi_size 3 + alternates_size alternate) 0
+tone_properties_size tone alternate = cond (is_some tone) (ispe_size + pixi_size 3 + alternates_size alternate) 0
 
 abbrev pub gain_properties_size : Option Gain → ℕ
-gain_properties_size none = 0
-gain_properties_size (some g) = image_properties_size g.hvcc + tone_properties_size g.tone g.alternate
+gain_properties_size None = 0
+gain_properties_size (Some g) = image_properties_size g.hvcc + tone_properties_size g.tone g.alternate
 
 -- how many properties the gain map has
 abbrev pub gain_property_count : Option Gain → ℕ
-gain_property_count none = 0
-gain_property_count (some g) = 5 + cond (has g.tone) (2 + alternates_count g.alternate) 0
+gain_property_count None = 0
+gain_property_count (Some g) = 5 + cond (is_some g.tone) (2 + alternates_count g.alternate) 0
 
 -- hvcC, two ispe, colr and pixi of the colour picture
 abbrev pub colour_properties_size : List ℕ → Colour → ℕ

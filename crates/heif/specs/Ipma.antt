@@ -1,6 +1,5 @@
 -- 23008-12, 9.3.1: item property association box.
-use Rattle.std.specs.Prelude.{cond, ℕ, ◌+◌, ◌*◌, length}
-use Rattle.std.proofs.Math.Option.{Option, none, some}
+use Rattle.std.specs.Prelude.{cond, ℕ, ◌+◌, ◌*◌, length, Option, None, Some}
 use mathlib.Core.List.{List, [], ◌∷◌, map, flat_map}
 use Rattle.octets.specs.Numbers.{◌‖◌, be}
 use Rattle.octets.specs.Boxes.{Box, full}
@@ -100,8 +99,8 @@ associated_items s = 2 * s.tiles + 2 + cond s.gain 1 0 + cond s.tone 1 0
 
 -- what the gain image and the tone map are associated with: the gain map's properties, and so many transforms
 abbrev pub gain_association_count : ℕ → Option Gain → ℕ
-gain_association_count t none = 0
-gain_association_count t (some g) = t + gain_property_count (some g)
+gain_association_count t None = 0
+gain_association_count t (Some g) = t + gain_property_count (Some g)
 
 -- a colour tile has three, an alpha tile two; each grid has three and the transforms, and the colour grid what is present of the second colr and clli
 abbrev pub association_count : Panel → ℕ

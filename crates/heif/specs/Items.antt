@@ -1,13 +1,13 @@
 -- The items of a file: which there are, and their ids.
-use Rattle.std.specs.Prelude.{◌≡◌, cond, List, [], ◌∷◌, ℕ, zero, suc, ◌+◌, ◌*◌, length}
+use Rattle.std.specs.Prelude.{◌≡◌, cond, List, [], ◌∷◌, ℕ, zero, suc, ◌+◌, ◌*◌, length, is_some}
 use Rattle.octets.specs.Numbers.{total}
 use Rattle.panel.specs.Panel.{Panel}
-use Rattle.panel.specs.Parts.{has, tone_of}
+use Rattle.panel.specs.Parts.{tone_of}
 use Rattle.panel.specs.declared.Shape.{Shape}
 
 -- which items a panel has
 abbrev pub shape : Panel → Shape
-shape p = record { tiles = length p.tiles.lengths; exif = has p.metadata.exif; gain = has p.gain; tone = has (tone_of p.gain) }
+shape p = record { tiles = length p.tiles.lengths; exif = is_some p.metadata.exif; gain = is_some p.gain; tone = is_some (tone_of p.gain) }
 
 -- ---- ids: the colour tiles from 1 on, the colour grid, the alpha tiles, the alpha grid, then what is present of Exif, gain image, XMP, tone map
 

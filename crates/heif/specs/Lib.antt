@@ -21,6 +21,5 @@ pub mod Iprp
 pub mod Grpl
 pub mod Meta
 pub mod File
-pub mod Lent
 pub mod Refusal
 pub mod Answer

@@ -1,11 +1,10 @@
 -- 14496-12, 8.1.1: media data box, with the payloads of the tiles, the Exif and the gain map; 23008-12, annex A: the Exif's payload.
-use Rattle.std.specs.Prelude.{cond, ℕ, ◌+◌, take, drop, length}
-use Rattle.std.proofs.Math.Option.{Option, none, some}
+use Rattle.std.specs.Prelude.{cond, ℕ, ◌+◌, take, drop, length, Option, None, Some, is_some, option_to_list}
 use mathlib.Core.List.{List, [], ◌∷◌, flatten}
 use Rattle.octets.specs.Numbers.{◌‖◌, be, text, ◌begins_with◌}
 use Rattle.octets.specs.Boxes.{Box, box}
 use Rattle.panel.specs.Panel.{Gain, Panel}
-use Rattle.panel.specs.Parts.{has, long, listed}
+use Rattle.panel.specs.Parts.{long}
 
 -- ---- payloads, in the order of mdat
 
@@ -28,12 +27,12 @@ exif_data_block exif = be 4 (tiff_header_offset exif) ‖ exif
 
 -- where there is Exif, one payload
 abbrev pub exif_payload : Option (List ℕ) → List (List ℕ)
-exif_payload none = []
-exif_payload (some exif) = exif_data_block exif ∷ []
+exif_payload None = []
+exif_payload (Some exif) = exif_data_block exif ∷ []
 
 abbrev pub gain_payloads : Option Gain → List (List ℕ)
-gain_payloads none = []
-gain_payloads (some g) = g.sample ∷ g.xmp ∷ listed g.tone
+gain_payloads None = []
+gain_payloads (Some g) = g.sample ∷ g.xmp ∷ option_to_list g.tone
 
 -- of the items behind the alpha grid
 abbrev pub other_payloads : Panel → List (List ℕ)
@@ -53,11 +52,11 @@ mdat p = box "mdat" (flatten (payloads p))
 
 -- the Exif payload: the offset of the TIFF header and the Exif bytes, where they are present
 abbrev pub exif_size : Option (List ℕ) → ℕ
-exif_size exif = cond (has exif) 4 0 + long exif
+exif_size exif = cond (is_some exif) 4 0 + long exif
 
 abbrev pub gain_data_size : Option Gain → ℕ
-gain_data_size none = 0
-gain_data_size (some g) = length g.sample + length g.xmp + long g.tone
+gain_data_size None = 0
+gain_data_size (Some g) = length g.sample + length g.xmp + long g.tone
 
 abbrev pub mdat_size : Panel → ℕ
 mdat_size p =

@@ -1,7 +1,7 @@
 -- In the ordinary form the file's length is the sum of its shares: what each part of a panel adds to one box after the other is gathered into one number.
 use mathlib.Core.Path.{◌≡◌, refl, ap, ◌∙◌}
 use mathlib.Core.Bool.{Bool, true, false, cond}
-use mathlib.Core.Option.{Option, none, some}
+use Rattle.std.specs.Prelude.{Option, None, Some, is_some}
 use mathlib.Core.List.{List, [], ◌∷◌, ◌++◌, map, map-append}
 use Prim.Native.Nat.{ℕ, ◌+◌, ◌*◌}
 use native.Mathlib.Omega.{arith}
@@ -10,7 +10,7 @@ use Rattle.octets.specs.Numbers.{◌‖◌, total}
 use Rattle.octets.proofs.Lists.{total-append}
 use Rattle.panel.specs.Panel.{Colour, Gain, Panel}
 use Rattle.panel.specs.Form.{ordinary}
-use Rattle.panel.specs.Parts.{has, given, tone_of, long}
+use Rattle.panel.specs.Parts.{given, tone_of, long}
 use Rattle.panel.specs.declared.GridDims.{GridDims}
 use Rattle.panel.specs.declared.color.Cicp.{Cicp}
 use Rattle.heif.specs.Idat.{wide, idat_size}
@@ -50,48 +50,48 @@ grid-shares d = either (wide d)
     either false = refl
 
 -- iloc and iinf, iref, mdat
-exif-shares : (e : Option (List ℕ)) → shares (exif_extras e) ≡ (16 + 21) * cond (has e) 1 0 + cond (has e) (reference_size ordinary 1) 0 + exif_size e
-exif-shares none = refl
-exif-shares (some e) = omega arith
+exif-shares : (e : Option (List ℕ)) → shares (exif_extras e) ≡ (16 + 21) * cond (is_some e) 1 0 + cond (is_some e) (reference_size ordinary 1) 0 + exif_size e
+exif-shares None = refl
+exif-shares (Some e) = omega arith
 
 -- ipco, ipma
 colour-shares : (c : Option Cicp) (i : Option (List ℕ))
     → 19 + shares (colour_extras c i) ≡ first_colr_size c i + second_colr_size c i + second_colr_count c i + replaced_colr c i
-colour-shares (some c) none = refl
-colour-shares (some c) (some i) = omega arith
-colour-shares none none = refl
-colour-shares none (some i) = omega arith
+colour-shares (Some c) None = refl
+colour-shares (Some c) (Some i) = omega arith
+colour-shares None None = refl
+colour-shares None (Some i) = omega arith
 
 -- ipco, ipma
 alternate-shares : (a : Option Colour) → shares (alternate_extras a) ≡ alternates_size a + alternates_count a
-alternate-shares none = refl
-alternate-shares (some a) = stated a.cicp a.icc
+alternate-shares None = refl
+alternate-shares (Some a) = stated a.cicp a.icc
   where
     stated : (c : Option Cicp) (i : Option (List ℕ))
-        → shares (given (has c) (alternate_cicp ∷ []) ‖ profile_extras i)
-        ≡ stated_size c i + (cond (has c) 1 0 + cond (has i) 1 0)
-    stated none none = refl
-    stated none (some i) = omega arith
-    stated (some c) none = refl
-    stated (some c) (some i) = omega arith
+        → shares (given (is_some c) (alternate_cicp ∷ []) ‖ profile_extras i)
+        ≡ stated_size c i + (cond (is_some c) 1 0 + cond (is_some i) 1 0)
+    stated None None = refl
+    stated None (Some i) = omega arith
+    stated (Some c) None = refl
+    stated (Some c) (Some i) = omega arith
 
 -- ftyp; iloc and iinf; iref; ipco; ipma; grpl; mdat
 tone-shares : (t : Option (List ℕ)) (a : Option Colour)
     → shares (tone_extras t a)
-    ≡ cond (has t) 4 0 + (16 + 21) * cond (has t) 1 0 + cond (has t) (reference_size ordinary 2) 0 + tone_properties_size t a
-    + (3 * cond (has t) 1 0 + cond (has t) (2 + alternates_count a) 0) + cond (has t) 36 0 + long t
-tone-shares none a = refl
-tone-shares (some t) a = omega (arith, alternate-shares a)
+    ≡ cond (is_some t) 4 0 + (16 + 21) * cond (is_some t) 1 0 + cond (is_some t) (reference_size ordinary 2) 0 + tone_properties_size t a
+    + (3 * cond (is_some t) 1 0 + cond (is_some t) (2 + alternates_count a) 0) + cond (is_some t) 36 0 + long t
+tone-shares None a = refl
+tone-shares (Some t) a = omega (arith, alternate-shares a)
 
 -- with the transforms that the gain image takes
 gain-shares : (turns : ℕ) (g : Option Gain)
-    → let tone = has (tone_of g) in
-    shares (gain_extras g) + cond (has g) turns 0
-    ≡ cond tone 4 0 + ((16 + 21) * (cond (has g) 2 0 + cond tone 1 0) + cond (has g) 20 0)
-    + (cond (has g) (2 * reference_size ordinary 1) 0 + cond tone (reference_size ordinary 2) 0) + gain_properties_size g
-    + (3 * (cond (has g) 1 0 + cond tone 1 0) + gain_association_count turns g) + cond tone 36 0 + gain_data_size g
-gain-shares turns none = refl
-gain-shares turns (some g) = omega (arith, tone-shares g.tone g.alternate)
+    → let tone = is_some (tone_of g) in
+    shares (gain_extras g) + cond (is_some g) turns 0
+    ≡ cond tone 4 0 + ((16 + 21) * (cond (is_some g) 2 0 + cond tone 1 0) + cond (is_some g) 20 0)
+    + (cond (is_some g) (2 * reference_size ordinary 1) 0 + cond tone (reference_size ordinary 2) 0) + gain_properties_size g
+    + (3 * (cond (is_some g) 1 0 + cond tone 1 0) + gain_association_count turns g) + cond tone 36 0 + gain_data_size g
+gain-shares turns None = refl
+gain-shares turns (Some g) = omega (arith, tone-shares g.tone g.alternate)
 
 -- ---- all parts
 

@@ -1,10 +1,9 @@
 -- The length of a file in the ordinary form as a sum: of the bare file, of a share for each extra that the panel has, and of what two extras cost where they meet.
-use Rattle.std.specs.Prelude.{◌&&◌, not, cond, List, [], ◌∷◌, ℕ, ◌+◌, ◌*◌, length}
-use Rattle.std.proofs.Math.Option.{Option, none, some}
+use Rattle.std.specs.Prelude.{◌&&◌, not, cond, List, [], ◌∷◌, ℕ, ◌+◌, ◌*◌, length, Option, None, Some, is_some}
 use Rattle.octets.specs.Numbers.{◌‖◌}
 use Rattle.panel.specs.Types.{irot_steps, imir_axis}
 use Rattle.panel.specs.Panel.{Colour, Gain, Panel}
-use Rattle.panel.specs.Parts.{has, given}
+use Rattle.panel.specs.Parts.{given}
 use Rattle.panel.specs.declared.GridDims.{GridDims}
 use Rattle.panel.specs.declared.color.Cicp.{Cicp}
 use Rattle.panel.specs.declared.metadata.Orientation.{Orientation}
@@ -51,39 +50,39 @@ abbrev pub grid_extras : GridDims → List Extra
 grid_extras d = given (wide d) (wide_grid ∷ [])
 
 abbrev pub turn_extras : Orientation → List Extra
-turn_extras o = given (has (irot_payload (irot_steps o))) (irot ∷ []) ‖ given (has (imir_payload (imir_axis o))) (imir ∷ [])
+turn_extras o = given (is_some (irot_payload (irot_steps o))) (irot ∷ []) ‖ given (is_some (imir_payload (imir_axis o))) (imir ∷ [])
 
 abbrev pub exif_extras : Option (List ℕ) → List Extra
-exif_extras none = []
-exif_extras (some e) = exif (length e) ∷ []
+exif_extras None = []
+exif_extras (Some e) = exif (length e) ∷ []
 
 abbrev pub colour_extras : Option Cicp → Option (List ℕ) → List Extra
-colour_extras cicp none = []
-colour_extras none (some i) = icc_alone (length i) ∷ []
-colour_extras (some c) (some i) = icc_beside_cicp (length i) ∷ []
+colour_extras cicp None = []
+colour_extras None (Some i) = icc_alone (length i) ∷ []
+colour_extras (Some c) (Some i) = icc_beside_cicp (length i) ∷ []
 
 abbrev pub profile_extras : Option (List ℕ) → List Extra
-profile_extras none = []
-profile_extras (some i) = alternate_icc (length i) ∷ []
+profile_extras None = []
+profile_extras (Some i) = alternate_icc (length i) ∷ []
 
 abbrev pub alternate_extras : Option Colour → List Extra
-alternate_extras none = []
-alternate_extras (some a) = given (has a.cicp) (alternate_cicp ∷ []) ‖ profile_extras a.icc
+alternate_extras None = []
+alternate_extras (Some a) = given (is_some a.cicp) (alternate_cicp ∷ []) ‖ profile_extras a.icc
 
 -- an alternate colour is written only with a tone map
 abbrev pub tone_extras : Option (List ℕ) → Option Colour → List Extra
-tone_extras none alternate = []
-tone_extras (some t) alternate = tone_map (length t) ∷ alternate_extras alternate
+tone_extras None alternate = []
+tone_extras (Some t) alternate = tone_map (length t) ∷ alternate_extras alternate
 
 abbrev pub gain_extras : Option Gain → List Extra
-gain_extras none = []
-gain_extras (some g) = gain_map (length g.hvcc) (length g.sample) (length g.xmp) ∷ tone_extras g.tone g.alternate
+gain_extras None = []
+gain_extras (Some g) = gain_map (length g.hvcc) (length g.sample) (length g.xmp) ∷ tone_extras g.tone g.alternate
 
 abbrev pub extras : Panel → List Extra
 extras p =
     grid_extras p.dims
     ‖ turn_extras p.metadata.orientation
-    ‖ given (has p.metadata.light) (light_level ∷ [])
+    ‖ given (is_some p.metadata.light) (light_level ∷ [])
     ‖ exif_extras p.metadata.exif
     ‖ colour_extras p.colour.cicp p.colour.icc
     ‖ gain_extras p.gain
@@ -97,9 +96,9 @@ bare p =
 
 -- a profile alone stands in the place of the code points
 abbrev pub replaced_colr : Option Cicp → Option (List ℕ) → ℕ
-replaced_colr (some c) icc = 0
-replaced_colr none none = 0
-replaced_colr none (some i) = 19
+replaced_colr (Some c) icc = 0
+replaced_colr None None = 0
+replaced_colr None (Some i) = 19
 
 abbrev pub replaced : Panel → ℕ
 replaced p = replaced_colr p.colour.cicp p.colour.icc
@@ -107,5 +106,5 @@ replaced p = replaced_colr p.colour.cicp p.colour.icc
 -- a gain image takes the transforms too, a byte for each; a range-extensions record of it brings a brand where the colour record did not
 abbrev pub meetings : Panel → ℕ
 meetings p =
-    cond (has p.gain) (turn_count p.metadata.orientation) 0
+    cond (is_some p.gain) (turn_count p.metadata.orientation) 0
     + cond (gain_rext p.gain && not (rext p.tiles.hvcc)) 4 0

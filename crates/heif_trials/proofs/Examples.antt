@@ -1,4 +1,5 @@
 -- The theorem on equal files is not empty: panels that it speaks of, a pair that agrees without being equal, and pairs with other bytes.
+use Rattle.std.specs.Prelude.{option_to_list}
 use mathlib.Core.Path.{◌≡◌, refl, ap}
 use mathlib.Core.List.{List, ◌∷◌, flatten, flat_map}
 use Prim.Native.Nat.{ℕ}
@@ -12,21 +13,20 @@ use Rattle.panel.specs.declared.fmt.BitDepth.{BitDepth}
 use Rattle.panel.specs.Agreement.{norm, Agree}
 use Rattle.panel.specs.Widths.{Fits}
 use Rattle.panel.specs.Form.{ordinary}
-use Rattle.panel.specs.Parts.{listed}
 use Rattle.heif.specs.File.{file}
 use Rattle.heif.specs.Refusal.{refusal}
 use Rattle.heif_unique.proofs.Unique.{same_files}
 use Rattle.heif_trials.specs.Panels.{panel_p, panel_p_stated, panel_p_other, at_depths}
 
 pub panel_p-fits : Fits panel_p
-panel_p-fits = record { tile_w = omega arith; tile_h = omega arith; full_w = omega arith; full_h = omega arith; light = tt; gain = tt }
+panel_p-fits = record { dims = record { tile_w = omega arith; tile_h = omega arith; full_w = omega arith; full_h = omega arith }; light = tt; gain = tt }
 
 pub panel_p-accepted : refusal ordinary panel_p ≡ 0
 unfolding boxes flatten flat_map file refusal
 panel_p-accepted = refl
 
 pub panel_p_other-fits : Fits panel_p_other
-panel_p_other-fits = record { tile_w = omega arith; tile_h = omega arith; full_w = omega arith; full_h = omega arith; light = tt; gain = tt }
+panel_p_other-fits = record { dims = record { tile_w = omega arith; tile_h = omega arith; full_w = omega arith; full_h = omega arith }; light = tt; gain = tt }
 
 panel_p_other-accepted : refusal ordinary panel_p_other ≡ 0
 unfolding boxes flatten flat_map file refusal
@@ -38,7 +38,7 @@ unfolding norm
 stated_agrees = record { same = refl }
 
 pub stated_differs : panel_p ≡ panel_p_stated → ⊥
-stated_differs e = let z : ◌≡◌ {A = ℕ} 0 1 = ap (λ (p : Panel). length (listed p.colour.cicp)) e in omega arith
+stated_differs e = let z : ◌≡◌ {A = ℕ} 0 1 = ap (λ (p : Panel). length (option_to_list p.colour.cicp)) e in omega arith
 
 -- one sample byte
 pub other-bytes : file ordinary panel_p ≡ file ordinary panel_p_other → ⊥

@@ -1,6 +1,5 @@
 -- Panel P, of one tile and nothing optional, and the panels that differ from it in a field or two.
-use Rattle.std.proofs.Math.Option.{Option, none, some}
-use Rattle.std.specs.Prelude.{List, [], ◌∷◌, ℕ, replicate}
+use Rattle.std.specs.Prelude.{Option, None, Some, List, [], ◌∷◌, ℕ, replicate}
 use Rattle.panel.specs.Panel.{Colour, Metadata, Gain, Panel}
 use Rattle.panel.specs.Types.{unspecified}
 use Rattle.panel.specs.declared.fmt.BitDepth.{BitDepth}
@@ -24,37 +23,37 @@ column rows width c colour metadata gain =
     }
 
 abbrev pub unstated : Colour
-unstated = record { cicp = none; icc = none }
+unstated = record { cicp = None; icc = None }
 
 abbrev pub said : Orientation → Option ContentLightLevel → Option (List ℕ) → Metadata
 said o l e = record { orientation = o; light = l; exif = e }
 
 abbrev pub plain : Metadata
-plain = said Normal none none
+plain = said Normal None None
 
 abbrev pub panel_p : Panel
-panel_p = column 1 64 0xAA unstated plain none
+panel_p = column 1 64 0xAA unstated plain None
 
 -- P with so many rows, or so wide
 abbrev pub panel_p_rows : ℕ → Panel
-panel_p_rows n = column n 64 0xAA unstated plain none
+panel_p_rows n = column n 64 0xAA unstated plain None
 
 abbrev pub panel_p_wide : ℕ → Panel
-panel_p_wide w = column 1 w 0xAA unstated plain none
+panel_p_wide w = column 1 w 0xAA unstated plain None
 
 abbrev pub panel_p_transpose : Panel
-panel_p_transpose = column 1 64 0xAA unstated (said Transpose none none) none
+panel_p_transpose = column 1 64 0xAA unstated (said Transpose None None) None
 
 abbrev pub panel_p_exif : List ℕ → Panel
-panel_p_exif exif = column 1 64 0xAA unstated (said Normal none (some exif)) none
+panel_p_exif exif = column 1 64 0xAA unstated (said Normal None (Some exif)) None
 
 abbrev pub panel_p_light : Panel
-panel_p_light = column 1 64 0xAA unstated (said Normal (some (record { max_content_light_level = 1000; max_pic_average_light_level = 400 })) none) none
+panel_p_light = column 1 64 0xAA unstated (said Normal (Some (record { max_content_light_level = 1000; max_pic_average_light_level = 400 })) None) None
 
 abbrev pub panel_p_tone : Panel
 panel_p_tone =
     column 1 64 0xAA unstated plain
-    (some (record {
+    (Some (record {
       hvcc = [];
       sample = [];
       width = 1;
@@ -62,8 +61,8 @@ panel_p_tone =
       depth = Eight;
       cicp = unspecified;
       xmp = [];
-      tone = some [];
-      alternate = none;
+      tone = Some [];
+      alternate = None;
     }))
 
 -- the panel with other depths, of colour and alpha
@@ -72,8 +71,8 @@ at_depths d a p = record { dims = p.dims; depth = d; alpha_depth = a; tiles = p.
 
 -- P with its colour stated as unspecified full-range
 abbrev pub panel_p_stated : Panel
-panel_p_stated = column 1 64 0xAA (record { cicp = some unspecified; icc = none }) plain none
+panel_p_stated = column 1 64 0xAA (record { cicp = Some unspecified; icc = None }) plain None
 
 -- P with another byte in its colour sample
 abbrev pub panel_p_other : Panel
-panel_p_other = column 1 64 0xAC unstated plain none
+panel_p_other = column 1 64 0xAC unstated plain None

@@ -1,14 +1,14 @@
 -- The normal form keeps the file and the refusal.
 use mathlib.Core.Path.{◌≡◌, refl, ap, ◌∙◌}
 use mathlib.Core.Bool.{◌||◌}
-use mathlib.Core.Option.{Option, none, some}
+use Rattle.std.specs.Prelude.{Option, None, Some, is_some}
 use mathlib.Core.List.{List, [], ◌∷◌}
 use Prim.Native.Nat.{ℕ, ◌*◌}
 use lib.ListN.{length}
 use Rattle.panel.specs.Panel.{Colour, Gain, Panel}
 use Rattle.panel.specs.Agreement.{stated, filled, shown, norm_gain, norm}
 use Rattle.panel.specs.Form.{Form}
-use Rattle.panel.specs.Parts.{has, tone_of}
+use Rattle.panel.specs.Parts.{tone_of}
 use Rattle.panel.specs.declared.color.Cicp.{Cicp}
 use Rattle.panel.proofs.Agreement.{put, alter}
 use Rattle.heif.specs.Items.{shape}
@@ -20,26 +20,26 @@ use Rattle.heif.specs.Refusal.{bad_grid, bad_counts, bad_sum, bad_items, too_lon
 module _ (f : Form) (p : Panel) where
   stated-file : (c : Option Cicp) (i : Option (List ℕ)) (g : Option Gain) → file f (put p (record { cicp = c; icc = i }) g) ≡ file f (put p (stated c i) g)
   unfolding file
-  stated-file (some c) i g = refl
-  stated-file none (some i) g = refl
-  stated-file none none g = refl
+  stated-file (Some c) i g = refl
+  stated-file None (Some i) g = refl
+  stated-file None None g = refl
 
   filled-file : (l : Colour) (g : Gain) (t : List ℕ) (c : Option Cicp) (i : Option (List ℕ))
-      → file f (put p l (some (alter g (some t) (some (record { cicp = c; icc = i }))))) ≡ file f (put p l (some (alter g (some t) (filled c i))))
+      → file f (put p l (Some (alter g (Some t) (Some (record { cicp = c; icc = i }))))) ≡ file f (put p l (Some (alter g (Some t) (filled c i))))
   unfolding file
-  filled-file l g t (some c) i = refl
-  filled-file l g t none (some i) = refl
-  filled-file l g t none none = refl
+  filled-file l g t (Some c) i = refl
+  filled-file l g t None (Some i) = refl
+  filled-file l g t None None = refl
 
-  shown-file : (l : Colour) (g : Gain) (t : Option (List ℕ)) (a : Option Colour) → file f (put p l (some (alter g t a))) ≡ file f (put p l (some (alter g t (shown t a))))
+  shown-file : (l : Colour) (g : Gain) (t : Option (List ℕ)) (a : Option Colour) → file f (put p l (Some (alter g t a))) ≡ file f (put p l (Some (alter g t (shown t a))))
   unfolding file
-  shown-file l g none a = refl
-  shown-file l g (some t) none = refl
-  shown-file l g (some t) (some a) = filled-file l g t a.cicp a.icc
+  shown-file l g None a = refl
+  shown-file l g (Some t) None = refl
+  shown-file l g (Some t) (Some a) = filled-file l g t a.cicp a.icc
 
   gain-file : (l : Colour) (g : Option Gain) → file f (put p l g) ≡ file f (put p l (norm_gain g))
-  gain-file l none = refl
-  gain-file l (some g) = shown-file l g g.tone g.alternate
+  gain-file l None = refl
+  gain-file l (Some g) = shown-file l g g.tone g.alternate
 
   pub file-norm : file f p ≡ file f (norm p)
   unfolding norm
@@ -47,20 +47,20 @@ module _ (f : Form) (p : Panel) where
 
 -- ---- the refusal
 
-gain_kept : (g : Option Gain) → has g ≡ has (norm_gain g)
-gain_kept none = refl
-gain_kept (some g) = refl
+gain_kept : (g : Option Gain) → is_some g ≡ is_some (norm_gain g)
+gain_kept None = refl
+gain_kept (Some g) = refl
 
-tone_kept : (g : Option Gain) → has (tone_of g) ≡ has (tone_of (norm_gain g))
-tone_kept none = refl
-tone_kept (some g) = refl
+tone_kept : (g : Option Gain) → is_some (tone_of g) ≡ is_some (tone_of (norm_gain g))
+tone_kept None = refl
+tone_kept (Some g) = refl
 
 shape-norm : (p : Panel) → shape p ≡ shape (norm p)
 unfolding norm
 shape-norm p =
     let g = gain_kept p.gain in
     let t = tone_kept p.gain in
-    λ i. record { tiles = length p.tiles.lengths; exif = has p.metadata.exif; gain = g i; tone = t i }
+    λ i. record { tiles = length p.tiles.lengths; exif = is_some p.metadata.exif; gain = g i; tone = t i }
 
 pub refusal-norm : (f : Form) (p : Panel) → refusal f p ≡ refusal f (norm p)
 unfolding refusal norm

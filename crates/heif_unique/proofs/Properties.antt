@@ -1,6 +1,6 @@
 -- Equal lists of properties come from equal fields: the first eight by their places, the optional ones by their types, the gain map's behind them.
 use mathlib.Core.Path.{◌≡◌, refl, sym, ap, ◌∙◌}
-use mathlib.Core.Option.{Option, none, some}
+use Rattle.std.specs.Prelude.{Option, None, Some, option_to_list}
 use mathlib.Core.List.{List, [], ◌∷◌, append-nil}
 use Prim.Native.Nat.{ℕ, suc, max}
 use Prim.Native.String.{String}
@@ -12,7 +12,6 @@ use Rattle.panel.specs.Types.{bits, irot_steps, imir_axis}
 use Rattle.panel.specs.Panel.{Colour, Gain, Panel}
 use Rattle.panel.specs.Agreement.{stated, shown, norm_gain}
 use Rattle.panel.specs.Widths.{Of, GainFits, Fits}
-use Rattle.panel.specs.Parts.{listed}
 use Rattle.heif.specs.Mdat.{gain_payloads}
 use Rattle.heif.specs.Colr.{second_colr, alternates}
 use Rattle.heif.specs.Pixi.{pixi}
@@ -30,46 +29,46 @@ use Rattle.heif.proofs.Ipco.{depths_told}
 
 -- ---- the gain map
 
-tone-length : (s d s' d' : Box) (t u : Option (List ℕ)) (a b : Option Colour) → held (tone_slots s d t a) ≡ held (tone_slots s' d' u b) → length (listed t) ≡ length (listed u)
-tone-length s d s' d' none none a b e = refl
-tone-length s d s' d' none (some u) a b e = absurd (omega (arith, ap length e))
-tone-length s d s' d' (some t) none a b e = absurd (omega (arith, ap length e))
-tone-length s d s' d' (some t) (some u) a b e = refl
+tone-length : (s d s' d' : Box) (t u : Option (List ℕ)) (a b : Option Colour) → held (tone_slots s d t a) ≡ held (tone_slots s' d' u b) → length (option_to_list t) ≡ length (option_to_list u)
+tone-length s d s' d' None None a b e = refl
+tone-length s d s' d' None (Some u) a b e = absurd (omega (arith, ap length e))
+tone-length s d s' d' (Some t) None a b e = absurd (omega (arith, ap length e))
+tone-length s d s' d' (Some t) (Some u) a b e = refl
 
-tone_inj : (s d s' d' : Box) (t u : Option (List ℕ)) (a b : Option Colour) → held (tone_slots s d t a) ≡ held (tone_slots s' d' u b) → listed t ≡ listed u
+tone_inj : (s d s' d' : Box) (t u : Option (List ℕ)) (a b : Option Colour) → held (tone_slots s d t a) ≡ held (tone_slots s' d' u b) → option_to_list t ≡ option_to_list u
     → (t ≡ u) × (shown t a ≡ shown u b)
-tone_inj s d s' d' none none a b e h = (refl, refl)
-tone_inj s d s' d' none (some u) a b e h = absurd (omega (arith, ap length e))
-tone_inj s d s' d' (some t) none a b e h = absurd (omega (arith, ap length e))
-tone_inj s d s' d' (some t) (some u) a b e h =
+tone_inj s d s' d' None None a b e h = (refl, refl)
+tone_inj s d s' d' None (Some u) a b e h = absurd (omega (arith, ap length e))
+tone_inj s d s' d' (Some t) None a b e h = absurd (omega (arith, ap length e))
+tone_inj s d s' d' (Some t) (Some u) a b e h =
     let w : t ≡ u = cc in
-    (ap some w, alternates_inj t u a b (sym (append-nil (alternates a)) ∙ ap (drop 2) e ∙ append-nil (alternates b)))
+    (ap Some w, alternates_inj t u a b (sym (append-nil (alternates a)) ∙ ap (drop 2) e ∙ append-nil (alternates b)))
 
 -- as many payloads on both sides
 pub gain-length : (s d s' d' : Box) (g h : Option Gain) → held (gain_slots s d g) ≡ held (gain_slots s' d' h) → length (gain_payloads g) ≡ length (gain_payloads h)
-gain-length s d s' d' none none e = refl
-gain-length s d s' d' none (some h) e = absurd (omega (arith, ap length e))
-gain-length s d s' d' (some g) none e = absurd (omega (arith, ap length e))
-gain-length s d s' d' (some g) (some h) e =
+gain-length s d s' d' None None e = refl
+gain-length s d s' d' None (Some h) e = absurd (omega (arith, ap length e))
+gain-length s d s' d' (Some g) None e = absurd (omega (arith, ap length e))
+gain-length s d s' d' (Some g) (Some h) e =
     ap (λ (n : ℕ). suc (suc n)) (tone-length s d s' d' g.tone h.tone g.alternate h.alternate (ap (drop 5) e))
 
 -- properties and payloads together make the gain map
 pub gain_inj : (s d s' d' : Box) (g h : Option Gain) → Of GainFits g → Of GainFits h → held (gain_slots s d g) ≡ held (gain_slots s' d' h)
     → gain_payloads g ≡ gain_payloads h → norm_gain g ≡ norm_gain h
 unfolding body_at
-gain_inj s d s' d' none none fg fh e p = refl
-gain_inj s d s' d' none (some h) fg fh e p = absurd (omega (arith, ap length e))
-gain_inj s d s' d' (some g) none fg fh e p = absurd (omega (arith, ap length e))
-gain_inj s d s' d' (some g) (some h) fg fh e p =
+gain_inj s d s' d' None None fg fh e p = refl
+gain_inj s d s' d' None (Some h) fg fh e p = absurd (omega (arith, ap length e))
+gain_inj s d s' d' (Some g) None fg fh e p = absurd (omega (arith, ap length e))
+gain_inj s d s' d' (Some g) (Some h) fg fh e p =
     let c : g.hvcc ≡ h.hvcc = ap (body_at 0) e in
     let z = ispe_inj fg.width fg.height fh.width fh.height (ap (body_at 1) e) in
     let b = pixi_inj 0 g.depth h.depth (ap (body_at 2) e) in
     let n = nclx_inj g.cicp h.cicp (ap (body_at 4) e) in
     let m : g.sample ≡ h.sample = cc in
     let x : g.xmp ≡ h.xmp = cc in
-    let l : listed g.tone ≡ listed h.tone = cc in
+    let l : option_to_list g.tone ≡ option_to_list h.tone = cc in
     let t = tone_inj s d s' d' g.tone h.tone g.alternate h.alternate (ap (drop 5) e) l in
-    λ i. some (record {
+    λ i. Some (record {
       hvcc = c i;
       sample = m i;
       width = z.0 i;
@@ -87,8 +86,8 @@ abbrev pub gain_props : Panel → List Box
 gain_props p = held (gain_slots (tone_ispe p.dims p.metadata.orientation) (pixi 3 (max (bits p.depth) 10)) p.gain)
 
 gain_leads : (s d : Box) (g : Option Gain) → Leads "hvcC" (held (gain_slots s d g))
-gain_leads s d none = leads_none "hvcC"
-gain_leads s d (some g) = leads_first "hvcC" g.hvcc _
+gain_leads s d None = leads_none "hvcC"
+gain_leads s d (Some g) = leads_first "hvcC" g.hvcc _
 
 -- the optional ones
 abbrev kinds : List String
@@ -103,7 +102,7 @@ options p =
     ∷ []
 
 option_at : ℕ → List (Option (List ℕ)) → Option (List ℕ)
-option_at n l = get_or l n none
+option_at n l = get_or l n None
 
 pub record SameFields (p q : Panel) : Type 0 where
   pub hvcc : p.tiles.hvcc ≡ q.tiles.hvcc
@@ -126,8 +125,8 @@ same-fields p q fp fq e =
     record {
       hvcc = ap (body_at 0) e;
       alpha_hvcc = ap (body_at 5) e;
-      tile = ispe_inj fp.tile_w fp.tile_h fq.tile_w fq.tile_h (ap (body_at 1) e);
-      whole = ispe_inj fp.full_w fp.full_h fq.full_w fq.full_h (ap (body_at 2) e);
+      tile = ispe_inj fp.dims.tile_w fp.dims.tile_h fq.dims.tile_w fq.dims.tile_h (ap (body_at 1) e);
+      whole = ispe_inj fp.dims.full_w fp.dims.full_h fq.dims.full_w fq.dims.full_h (ap (body_at 2) e);
       depth = d.0;
       alpha_depth = d.1;
       colour = colour_inj p.colour.cicp q.colour.cicp p.colour.icc q.colour.icc (ap (body_at 3) e) (at 0);

@@ -7,35 +7,43 @@ pub mod sheet_call;
 pub mod tile;
 
 ghost use Rattle.std.specs.Prelude.{◌≡◌, length};
-ghost use Rattle.panel.specs.Outcome.{says};
-ghost use Rattle.panel.specs.Lent.{lent};
+ghost use Rattle.c_types.specs.Lent.{lent, lent_of};
 ghost use Rattle.c_types.specs.Told.{told};
 ghost use Rattle.kahopiru.specs.Calls.{said_length, said, after_call};
 
-use c_numbers::known::panel_known;
-use c_numbers::values::panel_value;
-use c_types::{PanelCodes, Told, unknown_code};
-use panel::{Answer, refusal_number};
+use c_numbers::panel_from;
+use c_types::{LentParts, PanelCodes, Told, unknown_code};
+use panel::{Samples, Tiles};
 use plan::file_length;
 use write_file::wrap_hevc_grid_with_alpha;
 
-// An answer in numbers.
-fn tell(a: Answer) -> Told
-    ensures { result ≡ told (says a) }
+// The length of a panel's file, of byte parts that stand in one struct.
+#[tactic(auto, unfolding(crate::specs::Calls::said_length))]
+fn length_told(panel: PanelCodes, parts: &LentParts) -> Told
+    ensures { result ≡ told (said_length panel (lent_of parts.now)) }
 {
-    match a {
-        Answer::Length(n) => Told {
-            refusal: 0,
-            length: n,
-        },
-        Answer::Refused(r) => Told {
-            refusal: refusal_number(r) as u32,
-            length: 0,
-        },
+    match panel_from(panel, parts) {
+        Ok(panel) => Told::of(file_length(&panel).map_err(|refusal| refusal.number())),
+        Err(_) => unknown_code(),
     }
 }
 
-// The length of a panel's file, or the number of its refusal.
+// The file of a panel, of byte parts that stand in one struct.
+#[tactic(auto, unfolding(crate::specs::Calls::said, crate::specs::Calls::after_call))]
+fn write_told(panel: PanelCodes, parts: &LentParts, out: &mut [u8]) -> Told
+    ensures told { result ≡ told (said panel (lent_of parts.now) (length out.old)) }
+    ensures out_after { out.new ≡ after_call panel (lent_of parts.now) out.old }
+{
+    match panel_from(panel, parts) {
+        Ok(panel) => {
+            Told::of(wrap_hevc_grid_with_alpha(&panel, out).map_err(|refusal| refusal.number()))
+        }
+        Err(_) => unknown_code(),
+    }
+}
+
+// The length of a panel's file, or the number of its refusal. C hands over each part as two arguments, so that this call and the next name
+// all of them.
 #[unsafe(no_mangle)]
 pub extern "C" fn kahopiru_file_length(
     panel: PanelCodes,
@@ -55,17 +63,21 @@ pub extern "C" fn kahopiru_file_length(
 ) -> Told
     ensures { result ≡ told (said_length panel (lent color_hvcc.now alpha_hvcc.now color_lengths.now alpha_lengths.now color_samples.now alpha_samples.now icc.now exif.now gain_hvcc.now gain_sample.now gain_xmp.now gain_tmap.now alternate_icc.now)) }
 {
-    if !panel_known(panel) {
-        return unknown_code();
-    }
-    let answer = file_length(
-        panel_value(panel),
-        color_hvcc,
-        alpha_hvcc,
-        color_lengths,
-        alpha_lengths,
-        color_samples,
-        alpha_samples,
+    let parts = LentParts {
+        color: Tiles {
+            hvcc: color_hvcc,
+            samples: Samples {
+                lengths: color_lengths,
+                bytes: color_samples,
+            },
+        },
+        alpha: Tiles {
+            hvcc: alpha_hvcc,
+            samples: Samples {
+                lengths: alpha_lengths,
+                bytes: alpha_samples,
+            },
+        },
         icc,
         exif,
         gain_hvcc,
@@ -73,8 +85,8 @@ pub extern "C" fn kahopiru_file_length(
         gain_xmp,
         gain_tmap,
         alternate_icc,
-    );
-    tell(answer)
+    };
+    length_told(panel, &parts)
 }
 
 // The file of a panel in the output, and its length; or the number of its refusal, and the output as it was.
@@ -99,17 +111,21 @@ pub extern "C" fn kahopiru_write(
     ensures value { result ≡ told (said panel (lent color_hvcc.now alpha_hvcc.now color_lengths.now alpha_lengths.now color_samples.now alpha_samples.now icc.now exif.now gain_hvcc.now gain_sample.now gain_xmp.now gain_tmap.now alternate_icc.now) (length out.old)) }
     ensures out_after { out.new ≡ after_call panel (lent color_hvcc.now alpha_hvcc.now color_lengths.now alpha_lengths.now color_samples.now alpha_samples.now icc.now exif.now gain_hvcc.now gain_sample.now gain_xmp.now gain_tmap.now alternate_icc.now) out.old }
 {
-    if !panel_known(panel) {
-        return unknown_code();
-    }
-    let answer = wrap_hevc_grid_with_alpha(
-        panel_value(panel),
-        color_hvcc,
-        alpha_hvcc,
-        color_lengths,
-        alpha_lengths,
-        color_samples,
-        alpha_samples,
+    let parts = LentParts {
+        color: Tiles {
+            hvcc: color_hvcc,
+            samples: Samples {
+                lengths: color_lengths,
+                bytes: color_samples,
+            },
+        },
+        alpha: Tiles {
+            hvcc: alpha_hvcc,
+            samples: Samples {
+                lengths: alpha_lengths,
+                bytes: alpha_samples,
+            },
+        },
         icc,
         exif,
         gain_hvcc,
@@ -117,7 +133,6 @@ pub extern "C" fn kahopiru_write(
         gain_xmp,
         gain_tmap,
         alternate_icc,
-        out,
-    );
-    tell(answer)
+    };
+    write_told(panel, &parts, out)
 }

@@ -1,7 +1,7 @@
 -- Laws of boxes: their lengths, and that bytes fewer than 2³² are the bytes of at most one list of boxes.
 use mathlib.Core.Path.{◌≡◌, refl, sym, ap, ◌∙◌, subst}
 use mathlib.Core.Bool.{Bool, true, false, ◌&&◌, not}
-use mathlib.Core.Option.{Option, none, some}
+use Rattle.std.specs.Prelude.{Option, None, Some}
 use mathlib.Core.List.{List, [], ◌∷◌, ◌++◌, map, flat_map, append_assoc, append-nil}
 use Prim.Native.Nat.{ℕ, zero, suc, ◌+◌, ◌*◌, ◌^◌, ◌≤◌, ◌<◌}
 use Prim.Native.String.{String}
@@ -150,19 +150,19 @@ other k [] = true
 other k (b ∷ l) = not (same k b.type)
 
 other-optional : (k : Kind) (s : String) (a : Option (List ℕ)) (x : List Box) → T (not (same k (kind s))) → T (other k x) → T (other k (optional s a ‖ x))
-other-optional k s none x t h = h
-other-optional k s (some v) x t h = t
+other-optional k s None x t h = h
+other-optional k s (Some v) x t h = t
 
 clash : (s : String) {v : List ℕ} {x y : List Box} → T (other (kind s) x) → x ≡ box s v ∷ y → ⊥
 clash s h e = T_not (same (kind s) (kind s)) (subst (λ (l : List Box). T (other (kind s) l)) e h) (same_refl (kind s))
 
 cancel_optional : (s : String) (a b : Option (List ℕ)) {x y : List Box} → T (other (kind s) x) → T (other (kind s) y) → optional s a ‖ x ≡ optional s b ‖ y → (a ≡ b) × (x ≡ y)
-cancel_optional s none none h k e = (refl, e)
-cancel_optional s none (some v) h k e = absurd (clash s h e)
-cancel_optional s (some u) none h k e = absurd (clash s k (sym e))
-cancel_optional s (some u) (some v) {x} {y} h k e =
+cancel_optional s None None h k e = (refl, e)
+cancel_optional s None (Some v) h k e = absurd (clash s h e)
+cancel_optional s (Some u) None h k e = absurd (clash s k (sym e))
+cancel_optional s (Some u) (Some v) {x} {y} h k e =
     let b : box s u ≡ box s v = cc in
-    (ap some (ap (λ (c : Box). c.body) b), cc)
+    (ap Some (ap (λ (c : Box). c.body) b), cc)
 
 abbrev pub row : List String → List (Option (List ℕ)) → List Box → List Box
 row [] a x = x

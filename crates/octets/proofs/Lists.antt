@@ -9,7 +9,8 @@ use native.Mathlib.Omega.{arith}
 use lib.Dec.{eqb}
 use lib.ListN.{length, length-append, take, drop, get_or, take-append-drop}
 use lib.Seq.{take-suc, drop-cons}
-use borrow.Author.Tests.{eqb-true, eq-eqb, ne_eqb}
+use borrow.Author.Tests.{eqb-true, eq-eqb}
+use Rattle.std.specs.List.{starts_with}
 use Rattle.octets.specs.Numbers.{total, ◌begins_with◌}
 use Rattle.octets.proofs.Tests.{and_both, and-second_false}
 
@@ -69,24 +70,20 @@ pub begins_front : (l front : List ℕ) → l begins_with front ≡ true → l �
 begins_front l [] e = refl
 begins_front [] (m ∷ front) e = absurd (let z : ◌≡◌ {A = ℕ} 0 1 = cc in omega arith)
 begins_front (b ∷ l) (m ∷ front) e =
-    let both = and_both (eqb b m) (l begins_with front) e in
-    cc (eqb-true b m both.0, begins_front l front both.1)
+    let both = and_both (eqb m b) (l begins_with front) e in
+    cc (eqb-true m b both.0, begins_front l front both.1)
 
 pub begins_short : (l front : List ℕ) → length l < length front → l begins_with front ≡ false
 begins_short l [] h = absurd (omega arith)
 begins_short [] (m ∷ front) h = refl
-begins_short (b ∷ l) (m ∷ front) h = and-second_false (eqb b m) (l begins_with front) (begins_short l front (omega arith))
+begins_short (b ∷ l) (m ∷ front) h = and-second_false (eqb m b) (l begins_with front) (begins_short l front (omega arith))
 
--- from an index on, within both: the byte there decides, or the bytes behind it do
-module _ (l front : List ℕ) (i : ℕ) (h : i < length l) (k : i < length front) where
-  begins_step : drop i l begins_with drop i front ≡ (eqb (get_or l i 0) (get_or front i 0) && drop (i + 1) l begins_with drop (i + 1) front)
-  begins_step = rw (drop-step l i h, drop-step front i k)
-
-  pub begins_differs : (get_or l i 0 ≡ get_or front i 0 → ⊥) → drop i l begins_with drop i front ≡ false
-  begins_differs d = begins_step ∙ rw (ne_eqb (get_or l i 0) (get_or front i 0) d)
-
-  pub begins_next : get_or l i 0 ≡ get_or front i 0 → drop i l begins_with drop i front ≡ drop (i + 1) l begins_with drop (i + 1) front
-  begins_next e = begins_step ∙ rw (eq-eqb (get_or l i 0) (get_or front i 0) e)
+-- as the library's starts_with tells it
+pub begins_started : (l front : List ℕ) → starts_with eqb l front ≡ l begins_with front
+begins_started [] [] = refl
+begins_started [] (m ∷ front) = refl
+begins_started (b ∷ l) [] = refl
+begins_started (b ∷ l) (m ∷ front) = ap (λ (r : Bool). eqb m b && r) (begins_started l front)
 
 -- ---- lists of lists
 

@@ -1,18 +1,17 @@
 -- Laws of `Wrote`: one write behind another is one write, a box is a write, and what a loop of writes still owes.
 use mathlib.Core.Path.{◌≡◌, refl, sym, ap, ◌∙◌}
-use mathlib.Core.List.{List, [], ◌∷◌, ◌++◌}
-use Prim.Native.Nat.{ℕ, suc, ◌+◌, ◌*◌, ◌/◌, ◌^◌, ◌≤◌, ◌<◌}
+use mathlib.Core.List.{List, [], ◌∷◌, ◌++◌, append_assoc}
+use Prim.Native.Nat.{ℕ, suc, ◌+◌, ◌-◌, ◌≤◌}
 use Prim.Native.String.{String}
 use native.Mathlib.Nat.{add-zero, add-suc, suc-add}
-use native.Mathlib.Numerals.{add-one}
 use native.Mathlib.Omega.{arith}
-use lib.ListN.{length, length-append, take, drop, set, get_or}
-use lib.Seq.{sets, sets-eq, length-sets, length-take-le, take-suc}
+use lib.ListN.{length, length-append, take, drop}
+use lib.Seq.{sets, sets-eq, length-sets, drop-drop}
 use Rattle.octets.specs.Numbers.{◌‖◌, be}
 use Rattle.octets.specs.Boxes.{kind, tag, Box, box, box_of, full, boxes}
+use Rattle.octets.specs.declared.Output.{Output}
 use Rattle.octets.specs.Stores.{lay, Wrote, Boxed}
 use Rattle.octets.proofs.Boxes.{boxes-append, boxes_one, tag-kind_of}
-use Rattle.octets.proofs.Numbers.{be-append}
 
 -- ---- runs of stores
 
@@ -20,113 +19,104 @@ sets-append : (l : List ℕ) (i : ℕ) (xs ys : List ℕ) → sets (sets l i xs)
 sets-append l i [] ys = ap (λ (k : ℕ). sets l k ys) (add-zero i)
 sets-append l i (x ∷ xs) ys = ap (λ (k : ℕ). sets (sets l i (x ∷ xs)) k ys) (add-suc i (length xs) ∙ sym (suc-add i (length xs))) ∙ sets-append _ (suc i) xs ys
 
+-- stores keep the length
 pub length-lay : (l : List ℕ) (i : ℕ) (xs : List ℕ) → length (lay l i xs) ≡ length l
 unfolding lay
 length-lay l i xs = length-sets l i xs
 
--- one more byte of a copy
-pub lay-take-step : (l : List ℕ) (at i : ℕ) (src : List ℕ) → i < length src → set (lay l at (take i src)) (at + i) (get_or src i 0) ≡ lay l at (take (i + 1) src)
+-- a copy into the part from a on, as long as the part is
+pub copied : (l : List ℕ) (a : ℕ) {src part : List ℕ} → a + length src ≤ length l → part ≡ src → take a l ++ (part ++ drop (a + length src - a) (drop a l)) ≡ lay l a src
 unfolding lay
-lay-take-step l at i src h =
-    let n : length (take i src) ≡ i = length-take-le i src (omega arith) in
-    ap (λ (k : ℕ). set (sets l at (take i src)) (at + k) (get_or src i 0)) (sym n)
-    ∙ sets-append l at (take i src) (get_or src i 0 ∷ [])
-    ∙ ap (sets l at) (sym (ap (λ (k : ℕ). take k src) (add-one i) ∙ take-suc src i 0 h))
+copied l a {src} h e =
+    let k : a + length src - a ≡ length src = omega arith in
+    rw (k, e) (ap (λ (r : List ℕ). take a l ++ (src ++ r)) (drop-drop (length src) a l) ∙ sym (append_assoc (take a l) src _) ∙ sym (sets-eq src l a h))
 
 -- ---- writes
 
 infixr 20 ◌▹◌
 -- a write behind a write is one write
-pub ◌▹◌ : {l m o xs ys : List ℕ} {i j e n k : ℕ} → Wrote l i n xs m j → Wrote m j k ys o e → Wrote l i (n + k) (xs ++ ys) o e
+pub ◌▹◌ : {l m o : Output} {xs ys : List ℕ} {n k : ℕ} → Wrote l n xs m → Wrote m k ys o → Wrote l (n + k) (xs ++ ys) o
 unfolding lay
-◌▹◌ {l} {m} {o} {xs} {ys} {i} {j} {e} {n} {k} p q =
+◌▹◌ {l} {m} {o} {xs} {ys} {n} {k} p q =
     record {
-      bytes = q.bytes ∙ rw (p.bytes, p.end, ← p.size) (sets-append l i xs ys);
+      bytes = q.bytes ∙ rw (p.bytes, p.end, ← p.size) (sets-append l.bytes.now l.at xs ys);
       size = length-append xs ys ∙ rw (p.size, q.size);
-      end = omega arith;
+      end = omega (arith, p.end, q.end);
+      kept = q.kept ∙ p.kept;
+      same = q.same ∙ p.same;
     }
 
 -- the same bytes, said otherwise
-pub told : {l o xs ys : List ℕ} {i r n k : ℕ} → Wrote l i n xs o r → xs ≡ ys → n ≡ k → Wrote l i k ys o r
-told p e h = record { bytes = rw (← e) p.bytes; size = rw (← e, ← h) p.size; end = rw (← h) p.end }
+pub told : {l o : Output} {xs ys : List ℕ} {n k : ℕ} → Wrote l n xs o → xs ≡ ys → n ≡ k → Wrote l k ys o
+told p e h = record { bytes = rw (← e) p.bytes; size = rw (← e, ← h) p.size; end = rw (← h) p.end; kept = p.kept; same = p.same }
 
 -- nothing written
-pub nothing : {l : List ℕ} {i : ℕ} → Wrote l i 0 [] l i
+pub nothing : {l : Output} → Wrote l 0 [] l
 unfolding lay
-nothing = record { bytes = refl; size = refl; end = omega arith }
+nothing = record { bytes = refl; size = refl; end = omega arith; kept = refl; same = refl }
 
--- where two ways meet: what the variables hold there
-pub met : {l o o' xs : List ℕ} {i n r r' : ℕ} → Wrote l i n xs o r → o' ≡ o → r' ≡ r → Wrote l i n xs o' r'
-met w p q = record { bytes = p ∙ w.bytes; size = w.size; end = q ∙ w.end }
-
--- a write keeps the buffer's length
-pub kept : {l o xs : List ℕ} {i n r : ℕ} → Wrote l i n xs o r → length o ≡ length l
-unfolding lay
-kept {l} {o} {xs} {i} w = ap length w.bytes ∙ length-sets l i xs
+-- where two ways meet: what the output is there
+pub met : {l o o' : Output} {xs : List ℕ} {n : ℕ} → Wrote l n xs o → o' ≡ o → Wrote l n xs o'
+met w p = rw p w
 
 -- a write at the start: its bytes in front, the old rest behind
-pub front : {l o xs : List ℕ} {n r : ℕ} → Wrote l 0 n xs o r → n ≤ length l → o ≡ xs ++ drop (length xs) l
+pub front : {l o : Output} {xs : List ℕ} {n : ℕ} → Wrote l n xs o → l.at ≡ 0 → n ≤ length l.bytes.now → o.bytes.now ≡ xs ++ drop (length xs) l.bytes.now
 unfolding lay
-front {l} {o} {xs} w h =
-    let z : 0 + length xs ≡ length xs = omega arith in
-    w.bytes ∙ sets-eq xs l 0 (omega (arith, w.size)) ∙ ap (λ (i : ℕ). xs ++ drop i l) z
-
--- a number in two parts, the upper j bytes and the lower k
-pub halves : (j k v : ℕ) {l m o xs ys : List ℕ} {i r e : ℕ} → Wrote l i j xs m r → Wrote m r k ys o e → xs ≡ be j (v / 2 ^ (8 * k)) → ys ≡ be k v
-    → Wrote l i (j + k) (be (j + k) v) o e
-halves j k v p q x y = told (p ▹ q) ((λ i. x i ++ y i) ∙ sym (be-append j k v)) refl
+front {l} {o} {xs} w z h =
+    let e : 0 + length xs ≡ length xs = omega arith in
+    w.bytes ∙ rw z (sets-eq xs l.bytes.now 0 (omega (arith, w.size)) ∙ ap (λ (i : ℕ). xs ++ drop i l.bytes.now) e)
 
 -- ---- boxes
 
 -- a box: its head, its body
-pub boxed : {l m o x : List ℕ} {i j e n s : ℕ} (t : String) → Wrote l i 8 (be 4 s ‖ tag (kind t)) m j → Wrote m j n x o e → s ≡ 8 + n
-    → Boxed l i (8 + n) (box t x ∷ []) o e
+pub boxed : {l m o : Output} {x : List ℕ} {n s : ℕ} (t : String) → Wrote l 8 (be 4 s ‖ tag (kind t)) m → Wrote m n x o → s ≡ 8 + n
+    → Boxed l (8 + n) (box t x ∷ []) o
 boxed {x = x} {s = s} t a c h =
     let z : s ≡ 8 + length x = omega (arith, c.size) in
     record { wrote = told (a ▹ c) (ap (λ (k : ℕ). be 4 k ‖ tag (kind t) ‖ x) z ∙ sym (boxes_one (box t x))) refl }
 
 -- a box of a type that is given as bytes
-pub boxed_of : {l m o t x : List ℕ} {i j e n s : ℕ} → Wrote l i 8 (be 4 s ‖ t) m j → Wrote m j n x o e → length t ≡ 4 → s ≡ 8 + n → Boxed l i (8 + n) (box_of t x ∷ []) o e
+pub boxed_of : {l m o : Output} {t x : List ℕ} {n s : ℕ} → Wrote l 8 (be 4 s ‖ t) m → Wrote m n x o → length t ≡ 4 → s ≡ 8 + n → Boxed l (8 + n) (box_of t x ∷ []) o
 boxed_of {t = t} {x = x} {s = s} a c w h =
     let z : s ≡ 8 + length x = omega (arith, c.size) in
     let k = tag-kind_of t w in
     record { wrote = told (a ▹ c) ((λ i. be 4 (z i) ‖ sym k i ‖ x) ∙ sym (boxes_one (box_of t x))) refl }
 
 -- a box with a version and flags
-pub full_boxed : {l m o x : List ℕ} {i j e n s : ℕ} (t : String) (v f : ℕ) → Wrote l i 12 (be 4 s ‖ tag (kind t) ‖ be 1 v ‖ be 3 f) m j → Wrote m j n x o e
-    → s ≡ 12 + n → Boxed l i (12 + n) (full t v f x ∷ []) o e
+pub full_boxed : {l m o : Output} {x : List ℕ} {n s : ℕ} (t : String) (v f : ℕ) → Wrote l 12 (be 4 s ‖ tag (kind t) ‖ be 1 v ‖ be 3 f) m → Wrote m n x o
+    → s ≡ 12 + n → Boxed l (12 + n) (full t v f x ∷ []) o
 full_boxed {x = x} {s = s} t v f a c h =
     let z : s ≡ 8 + length (be 1 v ‖ be 3 f ‖ x) = omega (arith, c.size) in
     record { wrote = told (a ▹ c) (ap (λ (k : ℕ). be 4 k ‖ tag (kind t) ‖ be 1 v ‖ be 3 f ‖ x) z ∙ sym (boxes_one (full t v f x))) refl }
 
 infixr 20 ◌▸◌
 -- boxes behind boxes
-pub ◌▸◌ : {l m o : List ℕ} {x y : List Box} {i j e n k : ℕ} → Boxed l i n x m j → Boxed m j k y o e → Boxed l i (n + k) (x ++ y) o e
+pub ◌▸◌ : {l m o : Output} {x y : List Box} {n k : ℕ} → Boxed l n x m → Boxed m k y o → Boxed l (n + k) (x ++ y) o
 ◌▸◌ {x = x} {y = y} p q = record { wrote = told (p.wrote ▹ q.wrote) (sym (boxes-append x y)) refl }
 
 -- the same boxes, said otherwise
-pub retold : {l o : List ℕ} {x y : List Box} {i r n k : ℕ} → Boxed l i n x o r → x ≡ y → n ≡ k → Boxed l i k y o r
+pub retold : {l o : Output} {x y : List Box} {n k : ℕ} → Boxed l n x o → x ≡ y → n ≡ k → Boxed l k y o
 retold p e h = record { wrote = told p.wrote (ap boxes e) h }
 
 -- no box
-pub no_boxes : {l : List ℕ} {i : ℕ} → Boxed l i 0 [] l i
+pub no_boxes : {l : Output} → Boxed l 0 [] l
 unfolding boxes
 no_boxes = record { wrote = nothing }
 
 -- ---- loops that write
 
--- whatever writes the k bytes ys at a into m completes the write of xs
-pub record Owes (l : List ℕ) (at n : ℕ) (xs m : List ℕ) (a k : ℕ) (ys : List ℕ) : Type 0 where
-  pub pay : {o : List ℕ} {e : ℕ} → Wrote m a k ys o e → Wrote l at n xs o e
+-- whatever writes the k bytes ys into m completes the write of xs
+pub record Owes (l : Output) (n : ℕ) (xs : List ℕ) (m : Output) (k : ℕ) (ys : List ℕ) : Type 0 where
+  pub pay : {o : Output} → Wrote m k ys o → Wrote l n xs o
 
 -- at the start all is owed
-pub owes : {l xs : List ℕ} {at n k : ℕ} → k ≡ n → Owes l at n xs l at k xs
+pub owes : {l : Output} {xs : List ℕ} {n k : ℕ} → k ≡ n → Owes l n xs l k xs
 owes h = record { pay = λ w. told w refl h }
 
 -- a turn writes the front of what is owed
-pub turn : {l xs m ys o z zs : List ℕ} {at n a k s e t : ℕ} → Owes l at n xs m a k ys → Wrote m a s z o e → ys ≡ z ++ zs → k ≡ s + t → Owes l at n xs o e t zs
+pub turn : {l m o : Output} {xs ys z zs : List ℕ} {n k s t : ℕ} → Owes l n xs m k ys → Wrote m s z o → ys ≡ z ++ zs → k ≡ s + t → Owes l n xs o t zs
 turn p w q h = record { pay = λ v. p.pay (told (w ▹ v) (sym q) (sym h)) }
 
 -- at the end nothing is owed
-pub paid : {l xs m ys : List ℕ} {at n a k : ℕ} → Owes l at n xs m a k ys → ys ≡ [] → k ≡ 0 → Wrote l at n xs m a
+pub paid : {l m : Output} {xs ys : List ℕ} {n k : ℕ} → Owes l n xs m k ys → ys ≡ [] → k ≡ 0 → Wrote l n xs m
 paid p q h = p.pay (told nothing (sym q) (sym h))

@@ -1,6 +1,5 @@
 -- 14496-12, 4.2: boxes. A box is its size in 32 bits, its type of four characters, and its body.
-use Rattle.std.proofs.Math.Option.{Option, none, some}
-use Rattle.std.specs.Prelude.{List, [], ◌∷◌, ℕ, ◌+◌, length, get_or}
+use Rattle.std.specs.Prelude.{Option, None, Some, List, [], ◌∷◌, ℕ, ◌+◌, length, get_or}
 use Prim.Native.String.{String}
 use Rattle.octets.specs.Numbers.{◌‖◌, be, text}
 
@@ -37,8 +36,8 @@ full s version flags x = box s (be 1 version ‖ be 3 flags ‖ x)
 
 -- a box of what may be absent
 abbrev pub optional : String → Option (List ℕ) → List Box
-optional s none = []
-optional s (some x) = box s x ∷ []
+optional s None = []
+optional s (Some x) = box s x ∷ []
 
 -- boxes as bytes, one after the other; the size counts the 8 bytes of itself and of the type
 unfoldable pub boxes : List Box → List ℕ

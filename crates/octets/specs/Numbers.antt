@@ -33,4 +33,4 @@ infix 50 ◌begins_with◌
 abbrev pub ◌begins_with◌ : List ℕ → List ℕ → Bool
 l begins_with [] = true
 [] begins_with (m ∷ front) = false
-(b ∷ l) begins_with (m ∷ front) = eqb b m && l begins_with front
+(b ∷ l) begins_with (m ∷ front) = eqb m b && l begins_with front

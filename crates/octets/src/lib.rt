@@ -1,78 +1,84 @@
 // Numbers and bytes written into a lent buffer, and what bytes begin with.
 //
-// Each function that writes takes a position and answers the one behind what it wrote. specs/ holds the definitions of numbers, boxes and
-// writes, and proofs/ their laws, once for all crates.
+// specs/ holds the definitions of numbers, boxes and writes, and proofs/ their laws, once for all crates.
 #![tactic(auto)]
 
-ghost use Rattle.std.specs.Prelude.{◌≡◌, ◌+◌, ◌≤◌, ◌<◌, length};
+ghost use Rattle.std.specs.Prelude.{◌≡◌, ◌+◌, ◌<◌, [], length};
 ghost use Rattle.octets.specs.Numbers.{◌‖◌, be, ◌begins_with◌};
-ghost use Rattle.octets.specs.Stores.{Wrote};
+ghost use Rattle.octets.specs.Stores.{Room, Wrote};
 
-// Writes one byte.
-pub fn w8(out: &mut [u8], at: usize, v: u8) -> usize
-    requires { at + 1 ≤ length out.old }
-    ensures { Wrote out.old at 1 (be 1 v) out.new result }
-{
-    out[at] = v;
-    at + 1
+// A lent buffer, and the position from which it is written on. Each function that writes raises the position behind what it wrote.
+//
+// Its fields are open, since a caller learns what its buffer holds at the end only of a reference that it can see.
+#[derive(Drop)]
+pub struct Output<'a> {
+    pub bytes: &'a mut [u8],
+    pub at: usize,
 }
 
-// Writes a number of 16 bits, the higher byte first.
-pub fn w16(out: &mut [u8], at: usize, v: u16) -> usize
-    requires { at + 2 ≤ length out.old }
-    ensures { Wrote out.old at 2 (be 2 v) out.new result }
-{
-    let next = w8(out, at, (v / 256) as u8);
-    w8(out, next, (v % 256) as u8)
-}
-
-// Writes a number of 32 bits, the highest byte first.
-pub fn w32(out: &mut [u8], at: usize, v: u32) -> usize
-    requires { at + 4 ≤ length out.old }
-    ensures { Wrote out.old at 4 (be 4 v) out.new result }
-{
-    let next = w16(out, at, (v / 65536) as u16);
-    w16(out, next, (v % 65536) as u16)
-}
-
-// Writes bytes as they are.
-pub fn put(out: &mut [u8], at: usize, src: &[u8]) -> usize
-    requires { at + length src.now ≤ length out.old }
-    ensures { Wrote out.old at (length src.now) src.now out.new result }
-{
-    let mut i = 0;
-    while i < src.len() {
-        out[at + i] = src[i];
-        i += 1;
+// w8, w16 and w32 are three and not one over the type of the number: a box's definition gives each field's width, and so does each call.
+impl<'a> Output<'a> {
+    // A buffer, to be written from its front.
+    pub fn new(bytes: &'a mut [u8]) -> Output<'a>
+        ensures bytes { result.bytes.now ≡ bytes.old }
+        ensures at { result.at ≡ 0 }
+        ensures same { result.bytes.ghost_name ≡ bytes.entry.ghost_name }
+    {
+        Output { bytes, at: 0 }
     }
-    at + i
-}
 
-// Writes the head of a box: its whole size and its type.
-pub fn write_box(out: &mut [u8], at: usize, size: u32, cc: &[u8; 4]) -> usize
-    requires { at + 8 ≤ length out.old }
-    ensures { Wrote out.old at 8 (be 4 size ‖ cc.now) out.new result }
-{
-    let next = w32(out, at, size);
-    put(out, next, cc)
-}
+    // Writes bytes as they are.
+    pub fn put(&mut self, src: &[u8])
+        requires { Room self.old (length src.now) }
+        ensures { Wrote self.old (length src.now) src.now self.new }
+    {
+        let end = self.at + src.len();
+        self.bytes[self.at..end].copy_from_slice(src);
+        self.at = end;
+    }
 
-// Writes the head of a box with a version and flags.
-pub fn write_fullbox(
-    out: &mut [u8],
-    at: usize,
-    size: u32,
-    cc: &[u8; 4],
-    ver: u8,
-    flags: u32,
-) -> usize
-    requires { at + 12 ≤ length out.old }
-    ensures { Wrote out.old at 12 (be 4 size ‖ cc.now ‖ be 1 ver ‖ be 3 flags) out.new result }
-{
-    let a = write_box(out, at, size, cc);
-    let b = w8(out, a, ver);
-    let c = w8(out, b, (flags / 65536 % 256) as u8);
-    w16(out, c, (flags % 65536) as u16)
+    // Writes one byte.
+    pub fn w8(&mut self, v: u8)
+        requires { Room self.old 1 }
+        ensures { Wrote self.old 1 (be 1 v) self.new }
+    {
+        self.put(&[v]);
+    }
+
+    // Writes a number of 16 bits, the higher byte first.
+    pub fn w16(&mut self, v: u16)
+        requires { Room self.old 2 }
+        ensures { Wrote self.old 2 (be 2 v) self.new }
+    {
+        self.put(&v.to_be_bytes());
+    }
+
+    // Writes a number of 32 bits, the highest byte first.
+    pub fn w32(&mut self, v: u32)
+        requires { Room self.old 4 }
+        ensures { Wrote self.old 4 (be 4 v) self.new }
+    {
+        self.put(&v.to_be_bytes());
+    }
+
+    // Writes the head of a box: its whole size and its type.
+    pub fn write_box(&mut self, size: u32, cc: &[u8; 4])
+        requires { Room self.old 8 }
+        ensures { Wrote self.old 8 (be 4 size ‖ cc.now) self.new }
+    {
+        self.w32(size);
+        self.put(cc);
+    }
+
+    // Writes the head of a box with a version and flags.
+    pub fn write_fullbox(&mut self, size: u32, cc: &[u8; 4], ver: u8, flags: u32)
+        requires { Room self.old 12 }
+        ensures { Wrote self.old 12 (be 4 size ‖ cc.now ‖ be 1 ver ‖ be 3 flags) self.new }
+    {
+        self.write_box(size, cc);
+        self.w8(ver);
+        self.put(&flags.to_be_bytes()[1..]);
+    }
 }
 
 // The size of a box with a body of so many bytes behind `head`.
@@ -87,15 +93,5 @@ pub fn size_of(head: u32, len: usize) -> u32
 pub fn begins_with(bytes: &[u8], front: &[u8]) -> bool
     ensures { result ≡ (bytes.now begins_with front.now) }
 {
-    if bytes.len() < front.len() {
-        return false;
-    }
-    let mut i = 0;
-    while i < front.len() {
-        if bytes[i] != front[i] {
-            return false;
-        }
-        i += 1;
-    }
-    true
+    bytes.starts_with(front)
 }

@@ -1,6 +1,6 @@
 -- What agreement is: the fields that agreeing panels have in common, and the two agreements; and the normal form taken twice is itself.
 use mathlib.Core.Path.{◌≡◌, refl, ap}
-use mathlib.Core.Option.{Option, none, some}
+use Rattle.std.specs.Prelude.{Option, None, Some}
 use mathlib.Core.List.{List}
 use Prim.Native.Nat.{ℕ}
 use Rattle.panel.specs.Types.{unspecified}
@@ -59,44 +59,44 @@ alike p q a =
     }
 
 abbrev nothing_stated : Colour
-nothing_stated = record { cicp = none; icc = none }
+nothing_stated = record { cicp = None; icc = None }
 
 -- unstated colour agrees with unspecified full-range
-pub unstated_agrees : (p : Panel) (g : Option Gain) → Agree (put p nothing_stated g) (put p (record { cicp = some unspecified; icc = none }) g)
+pub unstated_agrees : (p : Panel) (g : Option Gain) → Agree (put p nothing_stated g) (put p (record { cicp = Some unspecified; icc = None }) g)
 unfolding norm
 unstated_agrees p g = record { same = refl }
 
 -- an alternate colour that states nothing agrees with none, and so does any without a tone map
 pub empty_alternate_agrees : (p : Panel) (c : Colour) (g : Gain) (t : List ℕ)
-    → Agree (put p c (some (alter g (some t) (some nothing_stated)))) (put p c (some (alter g (some t) none)))
+    → Agree (put p c (Some (alter g (Some t) (Some nothing_stated)))) (put p c (Some (alter g (Some t) None)))
 unfolding norm
 empty_alternate_agrees p c g t = record { same = refl }
 
 pub untoned_alternate_agrees : (p : Panel) (c : Colour) (g : Gain) (a : Option Colour)
-    → Agree (put p c (some (alter g none a))) (put p c (some (alter g none none)))
+    → Agree (put p c (Some (alter g None a))) (put p c (Some (alter g None None)))
 unfolding norm
 untoned_alternate_agrees p c g a = record { same = refl }
 
 -- ---- taken twice
 
 stated_twice : (c : Option Cicp) (i : Option (List ℕ)) → stated (stated c i).cicp (stated c i).icc ≡ stated c i
-stated_twice (some c) i = refl
-stated_twice none (some i) = refl
-stated_twice none none = refl
+stated_twice (Some c) i = refl
+stated_twice None (Some i) = refl
+stated_twice None None = refl
 
-filled_twice : (t : List ℕ) (c : Option Cicp) (i : Option (List ℕ)) → shown (some t) (filled c i) ≡ filled c i
-filled_twice t (some c) i = refl
-filled_twice t none (some i) = refl
-filled_twice t none none = refl
+filled_twice : (t : List ℕ) (c : Option Cicp) (i : Option (List ℕ)) → shown (Some t) (filled c i) ≡ filled c i
+filled_twice t (Some c) i = refl
+filled_twice t None (Some i) = refl
+filled_twice t None None = refl
 
 shown_twice : (t : Option (List ℕ)) (a : Option Colour) → shown t (shown t a) ≡ shown t a
-shown_twice none a = refl
-shown_twice (some t) none = refl
-shown_twice (some t) (some a) = filled_twice t a.cicp a.icc
+shown_twice None a = refl
+shown_twice (Some t) None = refl
+shown_twice (Some t) (Some a) = filled_twice t a.cicp a.icc
 
 gain_twice : (g : Option Gain) → norm_gain (norm_gain g) ≡ norm_gain g
-gain_twice none = refl
-gain_twice (some g) = ap (λ (a : Option Colour). some (alter g g.tone a)) (shown_twice g.tone g.alternate)
+gain_twice None = refl
+gain_twice (Some g) = ap (λ (a : Option Colour). Some (alter g g.tone a)) (shown_twice g.tone g.alternate)
 
 pub norm_twice : (p : Panel) → norm (norm p) ≡ norm p
 unfolding norm

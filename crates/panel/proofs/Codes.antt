@@ -2,12 +2,12 @@
 -- One computed look-up of each value in the list of all gives all three.
 use mathlib.Core.Path.{◌≡◌, refl, sym, ap, ◌∙◌}
 use mathlib.Core.Bool.{Bool, true, false, ◌&&◌, cond}
-use mathlib.Core.Option.{none, some}
+use Rattle.std.specs.Prelude.{Some}
 use mathlib.Core.List.{List, [], ◌∷◌}
 use Prim.Native.Nat.{ℕ, ◌*◌, ◌^◌, ◌<◌}
 use native.Mathlib.Omega.{arith}
 use lib.Dec.{T, eqb, ltb}
-use borrow.Author.Tests.{eqb-true, ltb-true}
+use borrow.Author.Tests.{ltb-true}
 use Rattle.octets.specs.Numbers.{be}
 use Rattle.octets.proofs.Numbers.{be_inj}
 use Rattle.panel.specs.Types.{bits, primaries_code, transfer_code, matrix_code}
@@ -27,49 +27,25 @@ module _ {A : Type 0} (code : A → ℕ) where
   below k [] = true
   below k (a ∷ l) = ltb (code a) k && below k l
 
-  -- B holds, and n is the code of none of these, in the order in which a match asks
-  abbrev pub MissesAfter : Type 0 → ℕ → List A → Type 0
-  MissesAfter B n [] = B
-  MissesAfter B n (a ∷ l) = MissesAfter (B × (n ≡ code a → ⊥)) n l
-
-  abbrev pub Misses : ℕ → List A → Type 0
-  Misses n l = MissesAfter (Unit {0}) n l
-
-  missed : {B : Type 0} (n : ℕ) (l : List A) → MissesAfter B n l → B × (none ≡ named code l n)
-  missed n [] m = (m, refl)
-  missed {B = B} n (a ∷ l) m = let r = missed {B = B × (n ≡ code a → ⊥)} n l m in (r.0.0, go (eqb n (code a)) refl r.0.1 r.1)
-    where
-      go : (b : Bool) → eqb n (code a) ≡ b → (n ≡ code a → ⊥) → none ≡ named code l n → none ≡ cond b (some a) (named code l n)
-      go true e f r = absurd (f (eqb-true n (code a) e))
-      go false e f r = r
-
-  -- a code that no arm of a match has names nothing
-  pub misses : (l : List A) (n : ℕ) → Misses n l → none ≡ named code l n
-  misses l n m = (missed {B = Unit {0}} n l m).1
-
-  bounded : (k n : ℕ) (l : List A) (a : A) → T (below k l) → named code l n ≡ some a → code a < k
+  bounded : (k n : ℕ) (l : List A) (a : A) → T (below k l) → named code l n ≡ Some a → code a < k
   bounded k n [] a t e = absurd (let z : ◌≡◌ {A = ℕ} 0 1 = cc in omega arith)
   bounded k n (b ∷ l) a t e = go (eqb n (code b)) (ltb (code b) k) refl t (bounded k n l a) e
     where
-      go : (c d : Bool) → ltb (code b) k ≡ d → T (d && below k l) → (T (below k l) → named code l n ≡ some a → code a < k) → cond c (some b) (named code l n) ≡ some a → code a < k
+      go : (c d : Bool) → ltb (code b) k ≡ d → T (d && below k l) → (T (below k l) → named code l n ≡ Some a → code a < k) → cond c (Some b) (named code l n) ≡ Some a → code a < k
       go true true h t r e = let w : b ≡ a = cc in rw w at (ltb-true (code b) k h)
       go false true h t r e = r t e
       go c false h t r e = absurd t
 
-  module _ (every : List A) (found : (a : A) → named code every (code a) ≡ some a) where
+  module _ (every : List A) (found : (a : A) → named code every (code a) ≡ Some a) where
     pub code_inj : (x y : A) → code x ≡ code y → x ≡ y
     code_inj x y e = some_inj (sym (found x) ∙ ap (λ (n : ℕ). named code every n) e ∙ found y)
 
     bytes_inj : (k : ℕ) → T (below (2 ^ (8 * k)) every) → (x y : A) → be k (code x) ≡ be k (code y) → x ≡ y
     bytes_inj k t x y e = code_inj x y (be_inj k (bounded (2 ^ (8 * k)) (code x) every x t (found x)) (bounded (2 ^ (8 * k)) (code y) every y t (found y)) e)
 
-    -- a value is what its code names
-    pub finds : (n : ℕ) (a : A) → code a ≡ n → some a ≡ named code every n
-    finds n a e = sym (found a) ∙ ap (λ (k : ℕ). named code every k) e
-
 -- ---- Primaries
 
-primaries-found : (a : Primaries) → primaries_named (primaries_code a) ≡ some a
+primaries-found : (a : Primaries) → primaries_named (primaries_code a) ≡ Some a
 primaries-found P.Reserved = refl
 primaries-found P.Bt709 = refl
 primaries-found P.Unspecified = refl
@@ -87,15 +63,9 @@ primaries-found P.Ebu3213 = refl
 pub primaries_inj : (x y : Primaries) → be 2 (primaries_code x) ≡ be 2 (primaries_code y) → x ≡ y
 primaries_inj = bytes_inj primaries_code every_primaries primaries-found 2 tt
 
-pub primaries_finds : (n : ℕ) (a : Primaries) → primaries_code a ≡ n → some a ≡ primaries_named n
-primaries_finds = finds primaries_code every_primaries primaries-found
-
-pub primaries_misses : (n : ℕ) → Misses primaries_code n every_primaries → none ≡ primaries_named n
-primaries_misses = misses primaries_code every_primaries
-
 -- ---- TransferFunction
 
-transfer-found : (a : TransferFunction) → transfer_named (transfer_code a) ≡ some a
+transfer-found : (a : TransferFunction) → transfer_named (transfer_code a) ≡ Some a
 transfer-found T.Reserved = refl
 transfer-found T.Bt709 = refl
 transfer-found T.Unspecified = refl
@@ -118,15 +88,9 @@ transfer-found T.Hlg = refl
 pub transfer_inj : (x y : TransferFunction) → be 2 (transfer_code x) ≡ be 2 (transfer_code y) → x ≡ y
 transfer_inj = bytes_inj transfer_code every_transfer transfer-found 2 tt
 
-pub transfer_finds : (n : ℕ) (a : TransferFunction) → transfer_code a ≡ n → some a ≡ transfer_named n
-transfer_finds = finds transfer_code every_transfer transfer-found
-
-pub transfer_misses : (n : ℕ) → Misses transfer_code n every_transfer → none ≡ transfer_named n
-transfer_misses = misses transfer_code every_transfer
-
 -- ---- MatrixCoefficients
 
-matrix-found : (a : MatrixCoefficients) → matrix_named (matrix_code a) ≡ some a
+matrix-found : (a : MatrixCoefficients) → matrix_named (matrix_code a) ≡ Some a
 matrix-found M.Identity = refl
 matrix-found M.Bt709 = refl
 matrix-found M.Unspecified = refl
@@ -149,18 +113,12 @@ matrix-found M.YCgCoRo = refl
 pub matrix_inj : (x y : MatrixCoefficients) → be 2 (matrix_code x) ≡ be 2 (matrix_code y) → x ≡ y
 matrix_inj = bytes_inj matrix_code every_matrix matrix-found 2 tt
 
-pub matrix_finds : (n : ℕ) (a : MatrixCoefficients) → matrix_code a ≡ n → some a ≡ matrix_named n
-matrix_finds = finds matrix_code every_matrix matrix-found
-
-pub matrix_misses : (n : ℕ) → Misses matrix_code n every_matrix → none ≡ matrix_named n
-matrix_misses = misses matrix_code every_matrix
-
 -- ---- BitDepth
 
 bits-table : List BitDepth
 bits-table = Twelve ∷ Ten ∷ Eight ∷ []
 
-bits-found : (d : BitDepth) → named bits bits-table (bits d) ≡ some d
+bits-found : (d : BitDepth) → named bits bits-table (bits d) ≡ Some d
 unfolding bits-table
 bits-found Eight = refl
 bits-found Ten = refl

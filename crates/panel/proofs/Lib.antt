@@ -2,4 +2,3 @@ pub mod Parts
 pub mod Codes
 pub mod Form
 pub mod Agreement
-pub mod Widths

@@ -1,32 +1,31 @@
 -- When two panels agree: every field is the same after the two agreements. Nothing here speaks of the file.
-use Rattle.std.specs.Prelude.{◌≡◌, List, ℕ}
-use Rattle.std.proofs.Math.Option.{Option, none, some}
+use Rattle.std.specs.Prelude.{◌≡◌, List, ℕ, Option, None, Some}
 use Rattle.panel.specs.Panel.{Colour, Gain, Panel}
 use Rattle.panel.specs.Types.{unspecified}
 use Rattle.panel.specs.declared.color.Cicp.{Cicp}
 
 -- unstated colour is read as unspecified full-range
 abbrev pub stated : Option Cicp → Option (List ℕ) → Colour
-stated (some c) icc = record { cicp = some c; icc = icc }
-stated none (some i) = record { cicp = none; icc = some i }
-stated none none = record { cicp = some unspecified; icc = none }
+stated (Some c) icc = record { cicp = Some c; icc = icc }
+stated None (Some i) = record { cicp = None; icc = Some i }
+stated None None = record { cicp = Some unspecified; icc = None }
 
 -- an empty alternate colour is read as none
 abbrev pub filled : Option Cicp → Option (List ℕ) → Option Colour
-filled (some c) icc = some (record { cicp = some c; icc = icc })
-filled none (some i) = some (record { cicp = none; icc = some i })
-filled none none = none
+filled (Some c) icc = Some (record { cicp = Some c; icc = icc })
+filled None (Some i) = Some (record { cicp = None; icc = Some i })
+filled None None = None
 
 -- and so is one that has no tone map
 abbrev pub shown : Option (List ℕ) → Option Colour → Option Colour
-shown none alternate = none
-shown (some t) none = none
-shown (some t) (some a) = filled a.cicp a.icc
+shown None alternate = None
+shown (Some t) None = None
+shown (Some t) (Some a) = filled a.cicp a.icc
 
 abbrev pub norm_gain : Option Gain → Option Gain
-norm_gain none = none
-norm_gain (some g) =
-    some (record {
+norm_gain None = None
+norm_gain (Some g) =
+    Some (record {
       hvcc = g.hvcc;
       sample = g.sample;
       width = g.width;

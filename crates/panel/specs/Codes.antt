@@ -1,6 +1,5 @@
 -- A value looked up by its code: the values of each colour enum, and the one of a list that a code names.
-use Rattle.std.specs.Prelude.{cond, List, [], ◌∷◌, ℕ, eqb}
-use Rattle.std.proofs.Math.Option.{Option, none, some}
+use Rattle.std.specs.Prelude.{cond, List, [], ◌∷◌, ℕ, eqb, Option, None, Some}
 use Rattle.panel.specs.Types.{primaries_code, transfer_code, matrix_code}
 use Rattle.panel.specs.declared.color.Primaries.{Primaries}
 use Rattle.panel.specs.declared.color.Primaries.TheVariants as P
@@ -11,8 +10,8 @@ use Rattle.panel.specs.declared.color.MatrixCoefficients.TheVariants as M
 
 -- the value of the list whose code is n, or none
 abbrev pub named : {A : Type 0} → (A → ℕ) → List A → ℕ → Option A
-named code [] n = none
-named code (a ∷ l) n = cond (eqb n (code a)) (some a) (named code l n)
+named code [] n = None
+named code (a ∷ l) n = cond (eqb n (code a)) (Some a) (named code l n)
 
 abbrev pub every_primaries : List Primaries
 every_primaries = P.Reserved ∷ P.Bt709 ∷ P.Unspecified ∷ P.Bt470M ∷ P.Bt470Bg ∷ P.Bt601 ∷ P.Smpte240 ∷ P.GenericFilm ∷ P.Bt2020 ∷ P.Xyz ∷ P.Smpte431 ∷ P.Smpte432 ∷ P.Ebu3213 ∷ []

@@ -2,7 +2,6 @@ pub mod Types
 pub mod Codes
 pub mod Panel
 pub mod Parts
-pub mod Lent
 pub mod Of
 pub mod Form
 pub mod Outcome

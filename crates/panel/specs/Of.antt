@@ -1,68 +1,44 @@
--- The panel that the code's struct of numbers and the byte parts lent beside it stand for.
-use Rattle.std.proofs.Math.Option.{Option, none, some}
-use Rattle.std.specs.Prelude.{List, ℕ}
-use Rattle.panel.specs.Panel.{Colour, Gain, Panel}
-use Rattle.panel.specs.Lent.{Lent}
-use Rattle.panel.specs.declared.color.Cicp.{Cicp}
-use Rattle.panel.specs.declared.part.Part.{Part}
-use Rattle.panel.specs.declared.part.Part.TheVariants.{Absent, Present}
-use Rattle.panel.specs.declared.color.MaybeCicp.{MaybeCicp}
-use Rattle.panel.specs.declared.color.MaybeCicp.TheVariants as C
+-- The panel that the code's struct stands for.
+use Rattle.std.specs.Prelude.{option_map, option_copied}
+use Rattle.panel.specs.Panel.{Tiles, Colour, Metadata, Gain, Panel}
+use Rattle.panel.specs.declared.Tiles.{Tiles as LentTiles}
 use Rattle.panel.specs.declared.color.ColorMetadata.{ColorMetadata}
-use Rattle.panel.specs.declared.color.MaybeColorMetadata.{MaybeColorMetadata}
-use Rattle.panel.specs.declared.color.MaybeColorMetadata.TheVariants as A
-use Rattle.panel.specs.declared.metadata.ContentLightLevel.{ContentLightLevel}
-use Rattle.panel.specs.declared.metadata.MaybeLightLevel.{MaybeLightLevel}
-use Rattle.panel.specs.declared.metadata.MaybeLightLevel.TheVariants as L
-use Rattle.panel.specs.declared.gain_map.MaybeGainMap.{MaybeGainMap}
-use Rattle.panel.specs.declared.gain_map.MaybeGainMap.TheVariants as G
-use Rattle.panel.specs.declared.Panel.{Panel as Numbers}
+use Rattle.panel.specs.declared.metadata.Metadata.{Metadata as LentMetadata}
+use Rattle.panel.specs.declared.gain_map.EncodedGainMap.{EncodedGainMap}
+use Rattle.panel.specs.declared.Panel.{Panel as LentPanel}
 
--- bytes lent beside an absent part belong to no field
-abbrev pub part : Part → List ℕ → Option (List ℕ)
-part Absent x = none
-part Present x = some x
+abbrev pub tiles_of : LentTiles → Tiles
+tiles_of t = record { hvcc = t.hvcc.now; lengths = t.samples.lengths.now; bytes = t.samples.bytes.now }
 
-abbrev pub cicp_of : MaybeCicp → Option Cicp
-cicp_of C.None = none
-cicp_of (C.Some c) = some c
+abbrev pub colour_of : ColorMetadata → Colour
+colour_of c = record { cicp = c.cicp; icc = option_copied c.icc }
 
-abbrev pub colour_of : ColorMetadata → List ℕ → Colour
-colour_of c icc = record { cicp = cicp_of c.cicp; icc = part c.icc icc }
+abbrev pub metadata_of : LentMetadata → Metadata
+metadata_of m = record { orientation = m.orientation; light = m.content_light_level; exif = option_copied m.exif }
 
-abbrev pub light_of : MaybeLightLevel → Option ContentLightLevel
-light_of L.None = none
-light_of (L.Some l) = some l
-
-abbrev pub alternate_of : MaybeColorMetadata → List ℕ → Option Colour
-alternate_of A.None icc = none
-alternate_of (A.Some c) icc = some (colour_of c icc)
-
-abbrev pub gain_of : MaybeGainMap → Lent → Option Gain
-gain_of G.None l = none
-gain_of (G.Some g) l =
-    some (record {
-      hvcc = l.gain_hvcc;
-      sample = l.gain_sample;
+abbrev pub gain_of : EncodedGainMap → Gain
+gain_of g =
+    record {
+      hvcc = g.hvcc.now;
+      sample = g.sample.now;
       width = g.width;
       height = g.height;
       depth = g.bit_depth;
       cicp = g.cicp;
-      xmp = l.gain_xmp;
-      tone = part g.tmap l.gain_tmap;
-      alternate = alternate_of g.alternate_color l.alternate_icc;
-    })
+      xmp = g.xmp.now;
+      tone = option_copied g.tmap;
+      alternate = option_map colour_of g.alternate_color;
+    }
 
-unfoldable pub panel_of : Numbers → Lent → Panel
-panel_of n l =
-    let m = n.metadata in
+unfoldable pub panel_of : LentPanel → Panel
+panel_of p =
     record {
-      dims = n.dims;
-      depth = n.bit_depth;
-      alpha_depth = n.alpha_bit_depth;
-      tiles = l.tiles;
-      alpha = l.alpha;
-      colour = colour_of n.color_meta l.icc;
-      metadata = record { orientation = m.orientation; light = light_of m.content_light_level; exif = part m.exif l.exif };
-      gain = gain_of n.gain_map l;
+      dims = p.dims;
+      depth = p.bit_depth;
+      alpha_depth = p.alpha_bit_depth;
+      tiles = tiles_of p.color;
+      alpha = tiles_of p.alpha;
+      colour = colour_of p.color_meta;
+      metadata = metadata_of p.metadata;
+      gain = option_map gain_of p.gain_map;
     }

@@ -1,9 +1,7 @@
 -- What a call answers: the file's length, or the number of a refusal.
-use Rattle.std.specs.Prelude.{ℕ, zero, suc}
+use Rattle.std.specs.Prelude.{ℕ, zero, suc, Result, Ok, Err}
 use Rattle.panel.specs.declared.Refusal.{Refusal}
 use Rattle.panel.specs.declared.Refusal.TheVariants.{GridSide, TileCount, SampleLengths, ItemIds, FileLength, OutputLength}
-use Rattle.panel.specs.declared.Answer.{Answer}
-use Rattle.panel.specs.declared.Answer.TheVariants.{Length, Refused}
 
 -- the file's length, or the number of a refusal
 pub data Outcome : Type 0 where
@@ -18,10 +16,13 @@ number ItemIds = 4
 number FileLength = 5
 number OutputLength = 6
 
--- what the code's answer says
-abbrev pub says : Answer → Outcome
-says (Length n) = made n
-says (Refused r) = refused (number r)
+-- what the code's answer says, where `numbered` gives the number of each error
+abbrev pub says_by : {E : Type 0} → (E → ℕ) → Result ℕ E → Outcome
+says_by numbered (Ok n) = made n
+says_by numbered (Err e) = refused (numbered e)
+
+abbrev pub says : Result ℕ Refusal → Outcome
+says r = says_by number r
 
 -- by the number of the refusal, where 0 is none
 abbrev pub outcome : ℕ → ℕ → Outcome

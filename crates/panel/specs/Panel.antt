@@ -1,6 +1,5 @@
 -- A panel: the numbers and bytes that a file is made of.
-use Rattle.std.proofs.Math.Option.{Option}
-use Rattle.std.specs.Prelude.{List, ℕ}
+use Rattle.std.specs.Prelude.{Option, List, ℕ}
 use Rattle.panel.specs.declared.GridDims.{GridDims}
 use Rattle.panel.specs.declared.color.Cicp.{Cicp}
 use Rattle.panel.specs.declared.fmt.BitDepth.{BitDepth}

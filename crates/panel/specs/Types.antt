@@ -1,24 +1,15 @@
 -- The code's enums as numbers: depths, code points, orientations; and the colour of which nothing is stated.
-use Rattle.std.specs.Prelude.{Bool, true, false, ℕ}
-use Rattle.std.proofs.Math.Option.{Option, none, some}
+use Rattle.std.specs.Prelude.{Bool, true, false, ℕ, Option, None, Some}
 use Rattle.panel.specs.declared.fmt.BitDepth.{BitDepth}
 use Rattle.panel.specs.declared.fmt.BitDepth.TheVariants.{Eight, Ten, Twelve}
 use Rattle.panel.specs.declared.color.Primaries.{Primaries}
 use Rattle.panel.specs.declared.color.Primaries.TheVariants as P
-use Rattle.panel.specs.declared.color.MaybePrimaries.{MaybePrimaries}
-use Rattle.panel.specs.declared.color.MaybePrimaries.TheVariants as MP
 use Rattle.panel.specs.declared.color.TransferFunction.{TransferFunction}
 use Rattle.panel.specs.declared.color.TransferFunction.TheVariants as T
-use Rattle.panel.specs.declared.color.MaybeTransferFunction.{MaybeTransferFunction}
-use Rattle.panel.specs.declared.color.MaybeTransferFunction.TheVariants as MT
 use Rattle.panel.specs.declared.color.MatrixCoefficients.{MatrixCoefficients}
 use Rattle.panel.specs.declared.color.MatrixCoefficients.TheVariants as M
-use Rattle.panel.specs.declared.color.MaybeMatrixCoefficients.{MaybeMatrixCoefficients}
-use Rattle.panel.specs.declared.color.MaybeMatrixCoefficients.TheVariants as MM
 use Rattle.panel.specs.declared.metadata.Orientation.{Orientation}
 use Rattle.panel.specs.declared.metadata.Orientation.TheVariants.{Normal, FlipH, Rotate180, FlipV, Transpose, Rotate90, Transverse, Rotate270}
-use Rattle.panel.specs.declared.metadata.ImirAxis.{ImirAxis}
-use Rattle.panel.specs.declared.metadata.ImirAxis.TheVariants as A
 use Rattle.panel.specs.declared.color.Cicp.{Cicp}
 
 abbrev pub bits : BitDepth → ℕ
@@ -42,10 +33,6 @@ primaries_code P.Smpte431 = 11
 primaries_code P.Smpte432 = 12
 primaries_code P.Ebu3213 = 22
 
-abbrev pub maybe_primaries : MaybePrimaries → Option Primaries
-maybe_primaries MP.None = none
-maybe_primaries (MP.Some x) = some x
-
 -- ISO/IEC 23091-2: transfer characteristics
 abbrev pub transfer_code : TransferFunction → ℕ
 transfer_code T.Reserved = 0
@@ -66,10 +53,6 @@ transfer_code T.Bt202012bit = 15
 transfer_code T.Smpte2084 = 16
 transfer_code T.Smpte428 = 17
 transfer_code T.Hlg = 18
-
-abbrev pub maybe_transfer : MaybeTransferFunction → Option TransferFunction
-maybe_transfer MT.None = none
-maybe_transfer (MT.Some x) = some x
 
 -- ISO/IEC 23091-2: matrix coefficients
 abbrev pub matrix_code : MatrixCoefficients → ℕ
@@ -92,10 +75,6 @@ matrix_code M.IPtC2 = 15
 matrix_code M.YCgCoRe = 16
 matrix_code M.YCgCoRo = 17
 
-abbrev pub maybe_matrix : MaybeMatrixCoefficients → Option MatrixCoefficients
-maybe_matrix MM.None = none
-maybe_matrix (MM.Some x) = some x
-
 -- quarter turns anticlockwise
 abbrev pub irot_steps : Orientation → ℕ
 irot_steps Normal = 0
@@ -109,18 +88,14 @@ irot_steps Rotate270 = 1
 
 -- the axis of the mirror, where there is one
 abbrev pub imir_axis : Orientation → Option Bool
-imir_axis Normal = none
-imir_axis FlipH = some false
-imir_axis Rotate180 = none
-imir_axis FlipV = some true
-imir_axis Transpose = some false
-imir_axis Rotate90 = none
-imir_axis Transverse = some false
-imir_axis Rotate270 = none
-
-abbrev pub maybe_axis : ImirAxis → Option Bool
-maybe_axis A.None = none
-maybe_axis (A.Some x) = some x
+imir_axis Normal = None
+imir_axis FlipH = Some false
+imir_axis Rotate180 = None
+imir_axis FlipV = Some true
+imir_axis Transpose = Some false
+imir_axis Rotate90 = None
+imir_axis Transverse = Some false
+imir_axis Rotate270 = None
 
 -- colour of which nothing is stated but the full range
 abbrev pub unspecified : Cicp

@@ -1,13 +1,13 @@
 -- The widths of a panel's fields: 32 bits for a size, 16 for a light level. The checks bound its other numbers.
-use Rattle.std.proofs.Math.Option.{Option, none, some}
-use Rattle.std.specs.Prelude.{◌^◌, ◌<◌}
+use Rattle.std.specs.Prelude.{Option, None, Some, ◌^◌, ◌<◌}
 use Rattle.panel.specs.Panel.{Gain, Panel}
+use Rattle.panel.specs.declared.GridDims.{GridDims}
 use Rattle.panel.specs.declared.metadata.ContentLightLevel.{ContentLightLevel}
 
 -- P of what is present
 abbrev pub Of : {A : Type 0} → (A → Type 0) → Option A → Type 0
-Of P none = Unit {0}
-Of P (some a) = P a
+Of P None = Unit {0}
+Of P (Some a) = P a
 
 pub record LightFits (l : ContentLightLevel) : Type 0 where
   pub content : l.max_content_light_level < 2 ^ 16
@@ -17,10 +17,13 @@ pub record GainFits (g : Gain) : Type 0 where
   pub width : g.width < 2 ^ 32
   pub height : g.height < 2 ^ 32
 
+pub record DimsFit (d : GridDims) : Type 0 where
+  pub tile_w : d.tile_w < 2 ^ 32
+  pub tile_h : d.tile_h < 2 ^ 32
+  pub full_w : d.full_w < 2 ^ 32
+  pub full_h : d.full_h < 2 ^ 32
+
 pub record Fits (p : Panel) : Type 0 where
-  pub tile_w : p.dims.tile_w < 2 ^ 32
-  pub tile_h : p.dims.tile_h < 2 ^ 32
-  pub full_w : p.dims.full_w < 2 ^ 32
-  pub full_h : p.dims.full_h < 2 ^ 32
+  pub dims : DimsFit p.dims
   pub light : Of LightFits p.metadata.light
   pub gain : Of GainFits p.gain

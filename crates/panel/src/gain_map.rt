@@ -1,20 +1,17 @@
-// The numbers of a gain map. Its record, sample, XMP and tone map bytes, and the ICC profile of its alternate colour, are lent beside it.
-use crate::color::{Cicp, MaybeColorMetadata};
+// The gain map of a panel.
+use crate::color::{Cicp, ColorMetadata};
 use crate::fmt::BitDepth;
-use crate::part::Part;
 
+// A gain map: its record, its one sample and its XMP, and the tone map's bytes and the alternate colour where there are any.
 #[derive(Clone, Copy)]
-pub struct EncodedGainMap {
+pub struct EncodedGainMap<'a> {
+    pub hvcc: &'a [u8],
+    pub sample: &'a [u8],
     pub width: u32,
     pub height: u32,
     pub bit_depth: BitDepth,
     pub cicp: Cicp,
-    pub tmap: Part,
-    pub alternate_color: MaybeColorMetadata,
-}
-
-#[derive(Clone, Copy)]
-pub enum MaybeGainMap {
-    Some(EncodedGainMap),
-    None,
+    pub xmp: &'a [u8],
+    pub tmap: Option<&'a [u8]>,
+    pub alternate_color: Option<ColorMetadata<'a>>,
 }

@@ -1,7 +1,7 @@
 // The types of a panel and of what a call answers.
 //
-// Byte parts (decoder configuration records, samples, ICC profiles, Exif, XMP, tone map) are lent as slices beside a `Panel`. specs/ holds the
-// pure panel that numbers and slices stand for, and when two panels agree; the file that a panel has is defined in `heif`.
+// A `Panel` holds its numbers, and lent slices for its byte parts (decoder configuration records, samples, ICC profiles, Exif, XMP, tone
+// map). specs/ holds the pure panel that it stands for, and when two panels agree; the file that a panel has is defined in `heif`.
 
 #![tactic(auto)]
 
@@ -9,7 +9,8 @@ pub mod color;
 pub mod fmt;
 pub mod gain_map;
 pub mod metadata;
-pub mod part;
+pub mod when;
+pub mod widths;
 
 ghost use Rattle.std.specs.Prelude.{◌≡◌};
 ghost use Rattle.panel.specs.Form.{form_of, FormWidths};
@@ -17,7 +18,7 @@ ghost use Rattle.panel.specs.Outcome.{number};
 
 use crate::color::ColorMetadata;
 use crate::fmt::BitDepth;
-use crate::gain_map::MaybeGainMap;
+use crate::gain_map::EncodedGainMap;
 use crate::metadata::Metadata;
 
 // The forms of a file, of which the caller chooses one. The definition `form_of` says what each is.
@@ -70,51 +71,55 @@ pub struct Shape {
     pub tone: bool,
 }
 
-// The numbers of a panel.
+// The samples of a picture's tiles, row by row: the length of each, and their bytes back to back.
 #[derive(Clone, Copy)]
-pub struct Panel {
+pub struct Samples<'l, 'b> {
+    pub lengths: &'l [u32],
+    pub bytes: &'b [u8],
+}
+
+// The tiles of a picture: their decoder configuration record, and their samples.
+#[derive(Clone, Copy)]
+pub struct Tiles<'a> {
+    pub hvcc: &'a [u8],
+    pub samples: Samples<'a, 'a>,
+}
+
+// A panel.
+#[derive(Clone, Copy)]
+pub struct Panel<'a> {
     pub dims: GridDims,
     pub bit_depth: BitDepth,
     pub alpha_bit_depth: BitDepth,
-    pub color_meta: ColorMetadata,
-    pub metadata: Metadata,
-    pub gain_map: MaybeGainMap,
+    pub color: Tiles<'a>,
+    pub alpha: Tiles<'a>,
+    pub color_meta: ColorMetadata<'a>,
+    pub metadata: Metadata<'a>,
+    pub gain_map: Option<EncodedGainMap<'a>>,
 }
 
-// Why a call refuses, in the order of the checks. The definition `number` gives each its number, from 1 to 6.
+// Why a panel is refused, each by the number of its check, in whose order the first stands.
 #[derive(Clone, Copy)]
 pub enum Refusal {
-    // 1: rows or columns are 0 or above 256.
-    GridSide,
-    // 2: a list of lengths has not exactly rows × columns entries.
-    TileCount,
-    // 3: the lengths do not sum to the bytes lent.
-    SampleLengths,
-    // 4: the last item id is more than the form can write; in the ordinary form, above 65,535.
-    ItemIds,
-    // 5: the file would exceed 4,294,967,295 bytes.
-    FileLength,
-    // 6: the output is shorter than the file.
-    OutputLength,
+    // Rows or columns are 0 or above 256.
+    GridSide = 1,
+    // A list of lengths has not exactly rows × columns entries.
+    TileCount = 2,
+    // The lengths do not sum to the bytes lent.
+    SampleLengths = 3,
+    // The last item id is more than the form can write; in the ordinary form, above 65,535.
+    ItemIds = 4,
+    // The file would exceed 4,294,967,295 bytes.
+    FileLength = 5,
+    // The output is shorter than the file.
+    OutputLength = 6,
 }
 
-// The number of a refusal.
-pub fn refusal_number(r: Refusal) -> u8
-    ensures { result ≡ number r }
-{
-    match r {
-        Refusal::GridSide => 1,
-        Refusal::TileCount => 2,
-        Refusal::SampleLengths => 3,
-        Refusal::ItemIds => 4,
-        Refusal::FileLength => 5,
-        Refusal::OutputLength => 6,
+impl Refusal {
+    // The number.
+    pub fn number(self) -> u8
+        ensures { result ≡ number self }
+    {
+        self as u8
     }
-}
-
-// What a call answers: the file's length, or why it refuses.
-#[derive(Clone, Copy)]
-pub enum Answer {
-    Length(u64),
-    Refused(Refusal),
 }

@@ -1,8 +1,6 @@
 // Orientation, light level and Exif.
 ghost use Rattle.std.specs.Prelude.{◌≡◌};
-ghost use Rattle.panel.specs.Types.{irot_steps, imir_axis, maybe_axis};
-
-use crate::part::Part;
+ghost use Rattle.panel.specs.Types.{irot_steps, imir_axis};
 
 // The eight orientations, in Exif's order.
 #[derive(Clone, Copy)]
@@ -17,43 +15,27 @@ pub enum Orientation {
     Rotate270,
 }
 
-// The axis of an imir property, where there is one.
-#[derive(Clone, Copy)]
-pub enum ImirAxis {
-    Some(bool),
-    None,
-}
-
 impl Orientation {
     // The turns of irot: quarters of a turn anticlockwise.
     pub fn irot_steps(self) -> u8
         ensures { result ≡ irot_steps self }
     {
         match self {
-            Orientation::Normal => 0,
-            Orientation::FlipH => 0,
+            Orientation::Normal | Orientation::FlipH | Orientation::FlipV => 0,
+            Orientation::Transverse | Orientation::Rotate270 => 1,
             Orientation::Rotate180 => 2,
-            Orientation::FlipV => 0,
-            Orientation::Transpose => 3,
-            Orientation::Rotate90 => 3,
-            Orientation::Transverse => 1,
-            Orientation::Rotate270 => 1,
+            Orientation::Transpose | Orientation::Rotate90 => 3,
         }
     }
 
-    // The axis of imir.
-    pub fn imir_axis(self) -> ImirAxis
-        ensures { maybe_axis result ≡ imir_axis self }
+    // The axis of imir, where there is a mirror.
+    pub fn imir_axis(self) -> Option<bool>
+        ensures { result ≡ imir_axis self }
     {
         match self {
-            Orientation::Normal => ImirAxis::None,
-            Orientation::FlipH => ImirAxis::Some(false),
-            Orientation::Rotate180 => ImirAxis::None,
-            Orientation::FlipV => ImirAxis::Some(true),
-            Orientation::Transpose => ImirAxis::Some(false),
-            Orientation::Rotate90 => ImirAxis::None,
-            Orientation::Transverse => ImirAxis::Some(false),
-            Orientation::Rotate270 => ImirAxis::None,
+            Orientation::FlipH | Orientation::Transpose | Orientation::Transverse => Some(false),
+            Orientation::FlipV => Some(true),
+            _ => None,
         }
     }
 }
@@ -65,16 +47,10 @@ pub struct ContentLightLevel {
     pub max_pic_average_light_level: u16,
 }
 
+// What is said of the picture beside its colour.
 #[derive(Clone, Copy)]
-pub enum MaybeLightLevel {
-    Some(ContentLightLevel),
-    None,
-}
-
-// What is said of the picture beside its colour. The Exif bytes are lent beside it.
-#[derive(Clone, Copy)]
-pub struct Metadata {
+pub struct Metadata<'a> {
     pub orientation: Orientation,
-    pub content_light_level: MaybeLightLevel,
-    pub exif: Part,
+    pub content_light_level: Option<ContentLightLevel>,
+    pub exif: Option<&'a [u8]>,
 }

@@ -2,191 +2,229 @@
 
 #![tactic(auto)]
 
-pub mod optional;
+ghost use Rattle.std.specs.Prelude.{◌≡◌, List, ℕ};
+ghost use Rattle.panel.specs.Codes.{named};
+ghost use Rattle.panel_codes.specs.Codes.{cicp_named};
+ghost use Rattle.panel_codes.specs.Known.{Known};
 
-ghost use Rattle.std.specs.Prelude.{◌≡◌};
-ghost use Rattle.std.proofs.Math.Option.{get_or as or};
-ghost use Rattle.panel.specs.Of.{cicp_of};
-ghost use Rattle.panel.specs.Parts.{has};
-ghost use Rattle.panel.specs.Types.{unspecified};
-ghost use Rattle.panel_codes.specs.Codes.{maybe_depth, depth_named, maybe_orientation, orientation_named, maybe_bool, yes_no, cicp_named, is_code};
-
-use panel::color::{
-    Cicp, MatrixCoefficients, MaybeCicp, MaybeMatrixCoefficients, MaybePrimaries,
-    MaybeTransferFunction, Primaries, TransferFunction,
-};
+use panel::color::{Cicp, MatrixCoefficients, Primaries, TransferFunction};
 use panel::fmt::BitDepth;
 use panel::metadata::Orientation;
 
+// A code that stands for nothing.
 #[derive(Clone, Copy)]
-pub enum MaybeDepth {
-    Some(BitDepth),
-    None,
+pub struct UnknownCode;
+
+// A kind of values, each with a code.
+pub trait Coded: Copy + 'static {
+    ghost code: { Self → ℕ };
+
+    ghost every: { List Self };
+
+    // The code of a value.
+    fn code(self) -> u16
+        ensures { result ≡ code self };
+
+    // All values, in the order of their codes.
+    fn every() -> &'static [Self]
+        ensures { result.now ≡ every };
 }
 
-impl MaybeDepth {
-    // Whether there is one.
-    pub fn is_some(self) -> bool
-        ensures { result ≡ has (maybe_depth self) }
-    {
-        match self {
-            MaybeDepth::Some(_) => true,
-            MaybeDepth::None => false,
-        }
-    }
-
-    // It, or Eight.
-    pub fn or_eight(self) -> BitDepth
-        ensures { result ≡ or (maybe_depth self) BitDepth.Eight }
-    {
-        match self {
-            MaybeDepth::Some(v) => v,
-            MaybeDepth::None => BitDepth::Eight,
-        }
-    }
-}
-
-// The depth with this code, or none.
-pub fn depth_named(code: u16) -> MaybeDepth
-    ensures { maybe_depth result ≡ depth_named code }
+// The value with this code.
+pub fn named<T: Coded>(code: u16) -> Result<T, UnknownCode>
+    ensures { Known (named T.code T.every code) result }
 {
-    match code {
-        0 => MaybeDepth::Some(BitDepth::Eight),
-        1 => MaybeDepth::Some(BitDepth::Ten),
-        2 => MaybeDepth::Some(BitDepth::Twelve),
-        _ => MaybeDepth::None,
+    // With `find` in place of the loop the proof did not close.
+    for value in T::every() {
+        if value.code() == code {
+            return Ok(*value);
+        }
     }
+    Err(UnknownCode)
 }
 
-#[derive(Clone, Copy)]
-pub enum MaybeOrientation {
-    Some(Orientation),
-    None,
-}
+impl Coded for BitDepth {
+    ghost use Rattle.panel_codes.specs.Codes.{depth_code, every_depth};
 
-impl MaybeOrientation {
-    // Whether there is one.
-    pub fn is_some(self) -> bool
-        ensures { result ≡ has (maybe_orientation self) }
-    {
+    ghost code = { depth_code };
+
+    ghost every = { every_depth };
+
+    // By `match`, since a depth is the number of its bits, and its code is not.
+    fn code(self) -> u16 {
         match self {
-            MaybeOrientation::Some(_) => true,
-            MaybeOrientation::None => false,
+            BitDepth::Eight => 0,
+            BitDepth::Ten => 1,
+            BitDepth::Twelve => 2,
         }
     }
 
-    // It, or Normal.
-    pub fn or_normal(self) -> Orientation
-        ensures { result ≡ or (maybe_orientation self) Orientation.Normal }
-    {
-        match self {
-            MaybeOrientation::Some(v) => v,
-            MaybeOrientation::None => Orientation::Normal,
-        }
+    #[tactic(auto, unfolding(crate::specs::Codes::every_depth))]
+    fn every() -> &'static [BitDepth] {
+        &[BitDepth::Eight, BitDepth::Ten, BitDepth::Twelve]
     }
 }
 
-// The orientation with this code, or none.
-pub fn orientation_named(code: u16) -> MaybeOrientation
-    ensures { maybe_orientation result ≡ orientation_named code }
+impl Coded for Orientation {
+    ghost use Rattle.panel_codes.specs.Codes.{orientation_code, every_orientation};
+
+    ghost code = { orientation_code };
+
+    ghost every = { every_orientation };
+
+    fn code(self) -> u16 {
+        self as u16
+    }
+
+    #[tactic(auto, unfolding(crate::specs::Codes::every_orientation))]
+    fn every() -> &'static [Orientation] {
+        &[
+            Orientation::Normal,
+            Orientation::FlipH,
+            Orientation::Rotate180,
+            Orientation::FlipV,
+            Orientation::Transpose,
+            Orientation::Rotate90,
+            Orientation::Transverse,
+            Orientation::Rotate270,
+        ]
+    }
+}
+
+impl Coded for bool {
+    ghost use Rattle.panel_codes.specs.Codes.{bool_code, every_bool};
+
+    ghost code = { bool_code };
+
+    ghost every = { every_bool };
+
+    fn code(self) -> u16 {
+        self as u16
+    }
+
+    #[tactic(auto, unfolding(crate::specs::Codes::every_bool))]
+    fn every() -> &'static [bool] {
+        &[false, true]
+    }
+}
+
+impl Coded for Primaries {
+    ghost use Rattle.panel.specs.Types.{primaries_code};
+    ghost use Rattle.panel.specs.Codes.{every_primaries};
+
+    ghost code = { primaries_code };
+
+    ghost every = { every_primaries };
+
+    fn code(self) -> u16 {
+        Primaries::code(self)
+    }
+
+    fn every() -> &'static [Primaries] {
+        &[
+            Primaries::Reserved,
+            Primaries::Bt709,
+            Primaries::Unspecified,
+            Primaries::Bt470M,
+            Primaries::Bt470Bg,
+            Primaries::Bt601,
+            Primaries::Smpte240,
+            Primaries::GenericFilm,
+            Primaries::Bt2020,
+            Primaries::Xyz,
+            Primaries::Smpte431,
+            Primaries::Smpte432,
+            Primaries::Ebu3213,
+        ]
+    }
+}
+
+impl Coded for TransferFunction {
+    ghost use Rattle.panel.specs.Types.{transfer_code};
+    ghost use Rattle.panel.specs.Codes.{every_transfer};
+
+    ghost code = { transfer_code };
+
+    ghost every = { every_transfer };
+
+    fn code(self) -> u16 {
+        TransferFunction::code(self)
+    }
+
+    fn every() -> &'static [TransferFunction] {
+        &[
+            TransferFunction::Reserved,
+            TransferFunction::Bt709,
+            TransferFunction::Unspecified,
+            TransferFunction::Bt470M,
+            TransferFunction::Bt470Bg,
+            TransferFunction::Bt601,
+            TransferFunction::Smpte240,
+            TransferFunction::Linear,
+            TransferFunction::Log100,
+            TransferFunction::Log100sqrt10,
+            TransferFunction::Iec61966,
+            TransferFunction::Bt1361,
+            TransferFunction::Srgb,
+            TransferFunction::Bt202010bit,
+            TransferFunction::Bt202012bit,
+            TransferFunction::Smpte2084,
+            TransferFunction::Smpte428,
+            TransferFunction::Hlg,
+        ]
+    }
+}
+
+impl Coded for MatrixCoefficients {
+    ghost use Rattle.panel.specs.Types.{matrix_code};
+    ghost use Rattle.panel.specs.Codes.{every_matrix};
+
+    ghost code = { matrix_code };
+
+    ghost every = { every_matrix };
+
+    fn code(self) -> u16 {
+        MatrixCoefficients::code(self)
+    }
+
+    fn every() -> &'static [MatrixCoefficients] {
+        &[
+            MatrixCoefficients::Identity,
+            MatrixCoefficients::Bt709,
+            MatrixCoefficients::Unspecified,
+            MatrixCoefficients::Reserved,
+            MatrixCoefficients::Fcc,
+            MatrixCoefficients::Bt470Bg,
+            MatrixCoefficients::Smpte170m,
+            MatrixCoefficients::Smpte240m,
+            MatrixCoefficients::YCgCo,
+            MatrixCoefficients::Bt2020Ncl,
+            MatrixCoefficients::Bt2020Cl,
+            MatrixCoefficients::Smpte2085,
+            MatrixCoefficients::ChromaticityDerivedNCL,
+            MatrixCoefficients::ChromaticityDerivedCL,
+            MatrixCoefficients::ICtCp,
+            MatrixCoefficients::IPtC2,
+            MatrixCoefficients::YCgCoRe,
+            MatrixCoefficients::YCgCoRo,
+        ]
+    }
+}
+
+// The colour encoding with these code points and this range.
+#[tactic(auto, unfolding(crate::specs::Codes::cicp_named))]
+pub fn cicp_named(
+    primaries: u16,
+    transfer: u16,
+    matrix: u16,
+    full_range: u16,
+) -> Result<Cicp, UnknownCode>
+    ensures { Known (cicp_named primaries transfer matrix full_range) result }
 {
-    match code {
-        0 => MaybeOrientation::Some(Orientation::Normal),
-        1 => MaybeOrientation::Some(Orientation::FlipH),
-        2 => MaybeOrientation::Some(Orientation::Rotate180),
-        3 => MaybeOrientation::Some(Orientation::FlipV),
-        4 => MaybeOrientation::Some(Orientation::Transpose),
-        5 => MaybeOrientation::Some(Orientation::Rotate90),
-        6 => MaybeOrientation::Some(Orientation::Transverse),
-        7 => MaybeOrientation::Some(Orientation::Rotate270),
-        _ => MaybeOrientation::None,
-    }
-}
-
-#[derive(Clone, Copy)]
-pub enum MaybeBool {
-    Some(bool),
-    None,
-}
-
-impl MaybeBool {
-    // Whether there is one.
-    pub fn is_some(self) -> bool
-        ensures { result ≡ has (maybe_bool self) }
-    {
-        match self {
-            MaybeBool::Some(_) => true,
-            MaybeBool::None => false,
-        }
-    }
-}
-
-// Whether this code says yes, or none where it says neither yes nor no.
-fn yes_no(code: u16) -> MaybeBool
-    ensures { maybe_bool result ≡ yes_no code }
-{
-    match code {
-        0 => MaybeBool::Some(false),
-        1 => MaybeBool::Some(true),
-        _ => MaybeBool::None,
-    }
-}
-
-// The colour encoding with these code points and this range, or none where one of the four stands for nothing.
-pub fn cicp_named(primaries: u16, transfer: u16, matrix: u16, full_range: u16) -> MaybeCicp
-    ensures { cicp_of result ≡ cicp_named primaries transfer matrix full_range }
-{
-    let MaybePrimaries::Some(p) = Primaries::from_code(primaries) else {
-        return MaybeCicp::None;
-    };
-    let MaybeTransferFunction::Some(t) = TransferFunction::from_code(transfer) else {
-        return MaybeCicp::None;
-    };
-    let MaybeMatrixCoefficients::Some(m) = MatrixCoefficients::from_code(matrix) else {
-        return MaybeCicp::None;
-    };
-    let MaybeBool::Some(full) = yes_no(full_range) else {
-        return MaybeCicp::None;
-    };
-    MaybeCicp::Some(Cicp {
-        primaries: p,
-        transfer: t,
-        matrix: m,
-        full_range: full,
+    Ok(Cicp {
+        primaries: named(primaries)?,
+        transfer: named(transfer)?,
+        matrix: named(matrix)?,
+        full_range: named(full_range)?,
     })
-}
-
-// A colour encoding, or one that states nothing but the full range.
-pub fn or_unspecified(cicp: MaybeCicp) -> Cicp
-    ensures { result ≡ or (cicp_of cicp) unspecified }
-{
-    match cicp {
-        MaybeCicp::Some(c) => c,
-        MaybeCicp::None => Cicp::unspecified(),
-    }
-}
-
-// The kinds of codes.
-#[derive(Clone, Copy)]
-pub enum CodeKind {
-    Depth,
-    Orientation,
-    YesNo,
-    Primaries,
-    Transfer,
-    Matrix,
-}
-
-// Whether a value of this kind has this code.
-pub fn is_code(kind: CodeKind, code: u16) -> bool
-    ensures { result ≡ is_code kind code }
-{
-    match kind {
-        CodeKind::Depth => depth_named(code).is_some(),
-        CodeKind::Orientation => orientation_named(code).is_some(),
-        CodeKind::YesNo => yes_no(code).is_some(),
-        CodeKind::Primaries => Primaries::from_code(code).is_some(),
-        CodeKind::Transfer => TransferFunction::from_code(code).is_some(),
-        CodeKind::Matrix => MatrixCoefficients::from_code(code).is_some(),
-    }
 }

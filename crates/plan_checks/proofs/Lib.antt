@@ -1,1 +1,1 @@
-pub mod Tests
+pub mod Sums

@@ -1,21 +1,12 @@
 -- What the code's test of a grid's size says of the definition's.
-use mathlib.Core.Path.{◌≡◌, refl, sym, ap, ◌∙◌}
-use mathlib.Core.Bool.{Bool, true, false, ◌||◌, cond}
-use Prim.Native.Nat.{◌+◌, ◌≤◌, ◌<◌}
+use mathlib.Core.Path.{◌≡◌, refl}
+use mathlib.Core.Bool.{Bool, true, false, cond}
+use Prim.Native.Nat.{◌+◌, ◌≤◌}
 use lib.Dec.{ltb}
-use borrow.Author.Tests.{lt-ltb, le-ltb, ltb-false}
+use borrow.Author.Tests.{ltb-false}
 use Rattle.octets.proofs.Tests.{or_false}
 use Rattle.panel.specs.declared.GridDims.{GridDims}
 use Rattle.heif.specs.Idat.{wide}
-
--- a great width decides, and behind a small one the height
-pub by_width : (d : GridDims) → 65535 < d.full_w → ltb 65535 d.full_w ≡ wide d
-by_width d h =
-    let e = lt-ltb 65535 d.full_w h in
-    e ∙ sym (ap (λ (b : Bool). b || ltb 65535 d.full_h) e)
-
-pub by_height : (d : GridDims) → d.full_w ≤ 65535 → ltb 65535 d.full_h ≡ wide d
-by_height d h = sym (ap (λ (b : Bool). b || ltb 65535 d.full_h) (le-ltb 65535 d.full_w h))
 
 -- where neither is great, both fit in 16 bits
 pub narrow : (d : GridDims) → wide d ≡ false → (d.full_w ≤ 65535) × (d.full_h ≤ 65535)

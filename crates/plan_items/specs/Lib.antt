@@ -1,2 +1,3 @@
+pub mod Grid
 pub mod Items
 pub mod Payloads

@@ -1,29 +1,28 @@
 // What the brands of a file depend on: whether its decoder configuration records are of the range extensions' profile.
-ghost use Rattle.std.specs.Prelude.{◌≡◌, ◌&&◌, not};
-ghost use Rattle.panel.specs.Lent.{Lent};
+ghost use Rattle.std.specs.Prelude.{◌≡◌, ◌&&◌, not, option_map};
 ghost use Rattle.panel.specs.Of.{gain_of};
 ghost use Rattle.heif.specs.Hvcc.{rext};
 ghost use Rattle.heif.specs.Ftyp.{gain_rext};
 
-use panel::gain_map::MaybeGainMap;
+use panel::gain_map::EncodedGainMap;
 
 // Whether a decoder configuration record is of the range extensions' profile.
 pub fn hvcc_uses_rext(hvcc: &[u8]) -> bool
     ensures { result ≡ rext hvcc.now }
 {
-    if hvcc.len() < 2 {
-        return false;
+    match hvcc {
+        [_, profile, ..] => profile % 32 == 4,
+        _ => false,
     }
-    hvcc[1] % 32 == 4
 }
 
 // Whether there is a gain map whose record is of the range extensions' profile.
-pub fn gain_uses_rext(gain: MaybeGainMap, hvcc: &[u8]) -> bool
-    ensures { (l : Lent) → l.gain_hvcc ≡ hvcc.now → result ≡ gain_rext (gain_of gain l) }
+pub fn gain_uses_rext(gain: &Option<EncodedGainMap>) -> bool
+    ensures { result ≡ gain_rext (option_map gain_of gain.now) }
 {
     match gain {
-        MaybeGainMap::Some(_) => hvcc_uses_rext(hvcc),
-        MaybeGainMap::None => false,
+        Some(g) => hvcc_uses_rext(g.hvcc),
+        None => false,
     }
 }
 

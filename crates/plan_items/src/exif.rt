@@ -8,8 +8,5 @@ use octets::begins_with;
 pub fn tiff_header_offset(exif: &[u8]) -> u32
     ensures { result ≡ tiff_header_offset exif.now }
 {
-    if begins_with(exif, b"Exif\0\0") {
-        return 6;
-    }
-    0
+    if begins_with(exif, b"Exif\0\0") { 6 } else { 0 }
 }

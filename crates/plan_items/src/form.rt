@@ -10,10 +10,7 @@ pub fn ids_bytes(form: FileForm, n: u32) -> u32
     ensures value { result ≡ (form_of form).id * n }
     ensures upper_bound { result ≤ 4 * n }
 {
-    if form.is_wide() {
-        return 4 * n;
-    }
-    2 * n
+    if form.is_wide() { 4 * n } else { 2 * n }
 }
 
 // How many bytes a count of items takes.
@@ -21,8 +18,5 @@ pub fn count_bytes(form: FileForm) -> u32
     ensures value { result ≡ (form_of form).count }
     ensures upper_bound { result ≤ 4 }
 {
-    if form.is_wide() {
-        return 4;
-    }
-    2
+    if form.is_wide() { 4 } else { 2 }
 }

@@ -7,6 +7,6 @@ pub mod brands;
 pub mod exif;
 pub mod form;
 pub mod grid;
-pub mod ids;
+pub mod items;
 pub mod payloads;
 pub mod shape;

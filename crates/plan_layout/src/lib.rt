@@ -1,22 +1,29 @@
 // The layout of a file: the whole size of each box and where the payloads begin; and the length of the file.
 #![tactic(auto)]
 
+ghost use Rattle.std.specs.Prelude.{◌≡◌, ◌+◌, ◌≤◌, option_map, length};
+ghost use Rattle.panel.specs.Of.{panel_of, gain_of};
+ghost use Rattle.heif.specs.Items.{shape, Even};
 ghost use Rattle.heif.specs.File.{size};
-ghost use Rattle.plan_sizes.specs.Capped.{Capped};
-ghost use Rattle.plan_sizes.specs.Sized.{Sized, Small};
-ghost use Rattle.plan_layout.specs.Laid.{Laid, Given, Within};
+ghost use Rattle.heif.specs.Mdat.{gain_data_size, mdat_size};
+ghost use Rattle.plan_items.specs.Payloads.{payload_lengths};
+ghost use Rattle.plan_sizes.specs.Sized.{Sized};
+ghost use Rattle.plan_layout.specs.Laid.{payloads_from, Laid, Within};
 
-use panel::Shape;
-use plan_items::payloads::PayloadLengths;
-use plan_sizes::Sizes;
+use panel::Panel;
+use panel::gain_map::EncodedGainMap;
+use plan_items::brands::{gain_uses_rext, hvcc_uses_rext};
+use plan_items::grid::descriptor_length;
+use plan_items::items::Items;
+use plan_items::payloads::{PayloadLengths, Payloads};
+use plan_sizes::exif_size;
+use plan_sizes::sizes::Sizes;
 
-// What a file is laid out by: which items it has, the length of a grid's descriptor, the whole size of each box, the offsets where the
-// colour samples, the alpha samples and the payloads behind them begin, how many bytes these payloads have, and whether the records are of
-// the range extensions' profile.
+// What a file is laid out by: which items it has, the whole size of each box, where the payloads lie, and whether the records are of the
+// range extensions' profile.
 #[derive(Clone, Copy)]
 pub struct Layout {
-    pub shape: Shape,
-    pub descriptor: u32,
+    pub items: Items,
     pub ftyp: u32,
     pub meta: u32,
     pub iloc: u32,
@@ -27,44 +34,72 @@ pub struct Layout {
     pub ipma: u32,
     pub idat: u32,
     pub mdat: u32,
-    pub color_data: u32,
-    pub alpha_data: u32,
-    pub other_data: u32,
-    pub exif: u32,
-    pub gain: PayloadLengths,
+    pub payloads: Payloads,
     pub color_rext: bool,
     pub gain_rext: bool,
 }
 
 // The length of the file: its three boxes, one behind the other.
-pub fn file_size(z: Sizes) -> u64
-    requires { Small z }
-    ensures { (f : _) (p : _) → Sized f p z → Capped 4294967296 result (size f p) }
+pub fn file_size(z: Sizes) -> u128
+    ensures boxes { result ≡ z.ftyp + z.meta + z.mdat }
+    ensures whole { (f : _) (p : _) → Sized f p z → result ≡ size f p }
 {
-    z.ftyp as u64 + z.meta + z.mdat
+    z.ftyp as u128 + z.meta + z.mdat
 }
 
-// The layout that sizes make, of a file with so many bytes of colour and alpha samples.
-pub fn placed(
-    z: Sizes,
-    shape: Shape,
-    descriptor: u32,
-    colors: usize,
-    alphas: usize,
-    color_rext: bool,
-    gain_rext: bool,
-) -> Layout
-    requires { Within z colors alphas }
-    ensures { (f : _) (p : _) → Given f p z shape descriptor colors alphas color_rext gain_rext → Laid f p result }
+// A length in 32 bits; of a part that is too long for a file it is the greatest.
+fn capped(n: usize) -> u32
+    ensures { n ≤ 4294967295 → result ≡ n }
 {
-    let gain = z.gain;
-    let mdat = z.ftyp as u64 + z.meta;
+    n.min(4294967295) as u32
+}
+
+// How many bytes the gain map's payloads have, 0 where there is none.
+fn payload_lengths(gain: &Option<EncodedGainMap>) -> PayloadLengths
+    ensures { gain_data_size (option_map gain_of gain.now) ≤ 4294967295 → result ≡ payload_lengths (option_map gain_of gain.now) }
+{
+    match gain {
+        Some(g) => PayloadLengths {
+            sample: capped(g.sample.len()),
+            xmp: capped(g.xmp.len()),
+            tmap: capped(g.tmap.map_or(0, |tone| tone.len())),
+        },
+        None => PayloadLengths {
+            sample: 0,
+            xmp: 0,
+            tmap: 0,
+        },
+    }
+}
+
+// Where the payloads lie, from the first colour sample on, of a panel whose payloads end within 32 bits.
+#[tactic(auto, unfolding(panel::specs::Of::panel_of))]
+fn payloads_of(panel: &Panel, color: u32) -> Payloads
+    requires { color + length panel.now.color.samples.bytes.now + length panel.now.alpha.samples.bytes.now ≤ 4294967295 }
+    ensures { color + mdat_size (panel_of panel.now) ≤ 4294967295 → result ≡ payloads_from color (panel_of panel.now) }
+{
+    let alpha = color + panel.color.samples.bytes.len() as u32;
+    let other = alpha + panel.alpha.samples.bytes.len() as u32;
+    Payloads {
+        descriptor: descriptor_length(panel.dims),
+        color,
+        alpha,
+        other,
+        exif: capped(exif_size(panel.metadata.exif)),
+        gain: payload_lengths(&panel.gain_map),
+    }
+}
+
+// The layout that sizes make, of a panel with these items.
+#[tactic(auto, unfolding(panel::specs::Of::panel_of))]
+pub fn placed(panel: &Panel, items: Items, z: Sizes) -> Layout
+    requires { Within z panel.now }
+    ensures { (f : _) → Even (panel_of panel.now) → items ≡ shape (panel_of panel.now) → Sized f (panel_of panel.now) z → Laid f (panel_of panel.now) result }
+{
+    let mdat = z.ftyp + z.meta as u32;
     let color_data = mdat + 8;
-    let alpha_data = color_data + colors as u64;
-    let other_data = alpha_data + alphas as u64;
     Layout {
-        shape,
-        descriptor,
+        items,
         ftyp: z.ftyp,
         meta: z.meta as u32,
         iloc: z.iloc,
@@ -75,12 +110,8 @@ pub fn placed(
         ipma: z.ipma,
         idat: z.idat,
         mdat: z.mdat as u32,
-        color_data: color_data as u32,
-        alpha_data: alpha_data as u32,
-        other_data: other_data as u32,
-        exif: z.exif as u32,
-        gain,
-        color_rext,
-        gain_rext,
+        payloads: payloads_of(panel, color_data),
+        color_rext: hvcc_uses_rext(panel.color.hvcc),
+        gain_rext: gain_uses_rext(&panel.gain_map),
     }
 }

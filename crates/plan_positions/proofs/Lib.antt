@@ -1,4 +1,3 @@
-pub mod Machine
 pub mod Roles
 pub mod Sizes
 pub mod Counted

@@ -1,14 +1,13 @@
--- How many positions a run has.
+-- How many positions a run has, and a list of runs.
 use mathlib.Core.Path.{◌≡◌, ◌∙◌}
 use Prim.Native.Nat.{◌+◌}
 use lib.ListN.{length, length-map}
 use Rattle.heif.specs.Ipma.{essential}
 use Rattle.heif.proofs.Items.{length-ids_from}
-use Rattle.plan_runs.specs.Runs.{places}
-use Rattle.plan_runs.specs.declared.Run.{Run}
+use Rattle.plan_runs.specs.Runs.{Span, places}
 
-pub length-places : (r : Run) → length (places r) ≡ r.count
-length-places r = length-ids_from r.first.0 r.count
+pub length-places : (r : Span) → length (places r) ≡ r.count
+length-places r = length-ids_from r.first r.count
 
-pub length-essential : (r : Run) → length (essential (places r)) ≡ r.count
+pub length-essential : (r : Span) → length (essential (places r)) ≡ r.count
 length-essential r = length-map (places r) (λ k. 128 + k) ∙ length-places r

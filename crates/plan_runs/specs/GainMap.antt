@@ -1,6 +1,6 @@
 -- The positions of the gain map's properties, and the next free one behind them.
 use Rattle.std.specs.Prelude.{ℕ, ◌+◌}
-use Rattle.plan_runs.specs.Runs.{Narrow, run_at}
+use Rattle.plan_runs.specs.Runs.{run_at}
 use Rattle.plan_runs.specs.declared.gain_map.ImagePlaces.{ImagePlaces}
 use Rattle.plan_runs.specs.declared.gain_map.TonePlaces.{TonePlaces}
 
@@ -20,15 +20,3 @@ tone_at n k alternates = record { ispe = run_at n k; pixi = run_at (n + k) k; co
 
 abbrev pub behind_tone : ℕ → ℕ → ℕ → ℕ
 behind_tone n k alternates = n + k + k + alternates
-
-pub record NarrowImage (p : ImagePlaces) : Type 0 where
-  pub hvcc : Narrow p.hvcc
-  pub ispe : Narrow p.ispe
-  pub pixi : Narrow p.pixi
-  pub auxc : Narrow p.auxc
-  pub colr : Narrow p.colr
-
-pub record NarrowTone (p : TonePlaces) : Type 0 where
-  pub ispe : Narrow p.ispe
-  pub pixi : Narrow p.pixi
-  pub colr : Narrow p.colr

@@ -2,3 +2,4 @@ pub mod Runs
 pub mod Pictures
 pub mod GainMap
 pub mod Roles
+pub mod Lists

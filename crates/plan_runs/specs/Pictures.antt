@@ -1,6 +1,6 @@
 -- The positions of the properties of the colour picture and the alpha picture, and of those that may be absent.
 use Rattle.std.specs.Prelude.{ℕ, ◌+◌}
-use Rattle.plan_runs.specs.Runs.{Narrow, run_at}
+use Rattle.plan_runs.specs.Runs.{run_at}
 use Rattle.plan_runs.specs.declared.pictures.ColorPlaces.{ColorPlaces}
 use Rattle.plan_runs.specs.declared.pictures.AlphaPlaces.{AlphaPlaces}
 use Rattle.plan_runs.specs.declared.pictures.OptionPlaces.{OptionPlaces}
@@ -15,21 +15,3 @@ alpha_at n = record { hvcc = run_at n 1; pixi = run_at (n + 1) 1; auxc = run_at 
 abbrev pub options_at : ℕ → ℕ → ℕ → ℕ → ℕ → OptionPlaces
 options_at n colr irot imir clli =
     record { colr = run_at n colr; irot = run_at (n + colr) irot; imir = run_at (n + colr + irot) imir; clli = run_at (n + colr + irot + imir) clli }
-
-pub record NarrowColour (c : ColorPlaces) : Type 0 where
-  pub hvcc : Narrow c.hvcc
-  pub tile : Narrow c.ispe_tile
-  pub full : Narrow c.ispe_full
-  pub colr : Narrow c.colr
-  pub pixi : Narrow c.pixi
-
-pub record NarrowAlpha (c : AlphaPlaces) : Type 0 where
-  pub hvcc : Narrow c.hvcc
-  pub pixi : Narrow c.pixi
-  pub auxc : Narrow c.auxc
-
-pub record NarrowOptions (o : OptionPlaces) : Type 0 where
-  pub colr : Narrow o.colr
-  pub irot : Narrow o.irot
-  pub imir : Narrow o.imir
-  pub clli : Narrow o.clli

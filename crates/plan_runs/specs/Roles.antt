@@ -1,9 +1,7 @@
 -- The positions of each role, as the code's places have them.
-use Rattle.std.specs.Prelude.{List, ℕ, ◌≤◌}
+use Rattle.std.specs.Prelude.{List, ℕ}
 use Rattle.heif.specs.Ipco
 use Rattle.plan_runs.specs.Runs.{places}
-use Rattle.plan_runs.specs.Pictures.{NarrowColour, NarrowAlpha, NarrowOptions}
-use Rattle.plan_runs.specs.GainMap.{NarrowImage, NarrowTone}
 use Rattle.plan_runs.specs.declared.Places.{Places}
 
 unfoldable pub its_of : Places → Ipco.Role → List ℕ
@@ -27,12 +25,3 @@ its_of y Ipco.colr_gain = places y.image.colr
 its_of y Ipco.ispe_tone = places y.tone.ispe
 its_of y Ipco.pixi_tone = places y.tone.pixi
 its_of y Ipco.colr_tone = places y.tone.colr
-
--- each leaves the highest bit free
-pub record NarrowPlaces (y : Places) : Type 0 where
-  pub count : y.count ≤ 127
-  pub color : NarrowColour y.color
-  pub alpha : NarrowAlpha y.alpha
-  pub options : NarrowOptions y.options
-  pub image : NarrowImage y.image
-  pub tone : NarrowTone y.tone

@@ -1,17 +1,20 @@
 -- The property positions that a run of the code stands for.
 use Rattle.std.specs.Prelude.{List, ℕ, ◌+◌, ◌≤◌}
 use Rattle.heif.specs.Items.{ids_from}
-use Rattle.plan_runs.specs.declared.Run.{Run}
+
+-- a run: its first position, and how many there are
+pub record Span : Type 0 where
+  pub first : ℕ
+  pub count : ℕ
 
 -- one after the other
-abbrev pub places : Run → List ℕ
-places r = ids_from r.first.0 r.count
+abbrev pub places : Span → List ℕ
+places r = ids_from r.first r.count
 
--- at most two positions, each of which leaves the highest of 8 bits free, as does the one behind them
-pub record Narrow (r : Run) : Type 0 where
-  pub most : r.first.0 + r.count ≤ 127
-  pub few : r.count ≤ 2
+-- each position leaves the highest of 8 bits free, as does the one behind them
+abbrev pub Narrow : Span → Type 0
+Narrow r = r.first + r.count ≤ 127
 
 -- so many positions from `first` on
-abbrev pub run_at : ℕ → ℕ → Run
-run_at first count = record { first = record { 0 = first }; count = count }
+abbrev pub run_at : ℕ → ℕ → Span
+run_at first count = record { first = first; count = count }

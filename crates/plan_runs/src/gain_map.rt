@@ -3,7 +3,6 @@ ghost use Rattle.std.specs.Prelude.{◌≡◌, ◌≤◌};
 ghost use Rattle.plan_runs.specs.GainMap.{behind_image, behind_tone, image_at, tone_at};
 
 use crate::{Positions, Run};
-use panel::PropertyPosition;
 
 // The positions of the gain image's properties.
 #[derive(Clone, Copy)]
@@ -23,59 +22,35 @@ pub struct TonePlaces {
     pub colr: Run,
 }
 
-#[derive(Clone, Copy)]
-pub struct PlacedImage {
-    pub places: ImagePlaces,
-    pub positions: Positions,
-}
-
-#[derive(Clone, Copy)]
-pub struct PlacedTone {
-    pub places: TonePlaces,
-    pub positions: Positions,
-}
-
 // The gain image's positions, with k boxes of each kind: one where there is a gain map, else none.
-pub fn image_places(positions: Positions, k: u8) -> PlacedImage
+pub fn image_places(positions: Positions, k: u8) -> (ImagePlaces, Positions)
     requires { behind_image positions.next.0 k ≤ 127 }
-    ensures { (result.places ≡ image_at positions.next.0 k) × (result.positions.next.0 ≡ behind_image positions.next.0 k) }
+    ensures places { result.0 ≡ image_at positions.next.0 k }
+    ensures next { result.1.next.0 ≡ behind_image positions.next.0 k }
 {
-    let a = positions.next;
-    let b = PropertyPosition(a.0 + k);
-    let c = PropertyPosition(b.0 + k);
-    let d = PropertyPosition(c.0 + k);
-    let e = PropertyPosition(d.0 + k);
-    let next = PropertyPosition(e.0 + k);
-    PlacedImage {
-        places: ImagePlaces {
-            hvcc: Run { first: a, count: k },
-            ispe: Run { first: b, count: k },
-            pixi: Run { first: c, count: k },
-            auxc: Run { first: d, count: k },
-            colr: Run { first: e, count: k },
-        },
-        positions: Positions { next },
-    }
+    let (hvcc, positions) = positions.take(k);
+    let (ispe, positions) = positions.take(k);
+    let (pixi, positions) = positions.take(k);
+    let (auxc, positions) = positions.take(k);
+    let (colr, positions) = positions.take(k);
+    let places = ImagePlaces {
+        hvcc,
+        ispe,
+        pixi,
+        auxc,
+        colr,
+    };
+    (places, positions)
 }
 
 // The tone map's positions, with k boxes of each kind and so many colr of the alternate colour.
-pub fn tone_places(positions: Positions, k: u8, alternates: u8) -> PlacedTone
+pub fn tone_places(positions: Positions, k: u8, alternates: u8) -> (TonePlaces, Positions)
     requires { behind_tone positions.next.0 k alternates ≤ 127 }
-    ensures { (result.places ≡ tone_at positions.next.0 k alternates) × (result.positions.next.0 ≡ behind_tone positions.next.0 k alternates) }
+    ensures places { result.0 ≡ tone_at positions.next.0 k alternates }
+    ensures next { result.1.next.0 ≡ behind_tone positions.next.0 k alternates }
 {
-    let a = positions.next;
-    let b = PropertyPosition(a.0 + k);
-    let c = PropertyPosition(b.0 + k);
-    let next = PropertyPosition(c.0 + alternates);
-    PlacedTone {
-        places: TonePlaces {
-            ispe: Run { first: a, count: k },
-            pixi: Run { first: b, count: k },
-            colr: Run {
-                first: c,
-                count: alternates,
-            },
-        },
-        positions: Positions { next },
-    }
+    let (ispe, positions) = positions.take(k);
+    let (pixi, positions) = positions.take(k);
+    let (colr, positions) = positions.take(alternates);
+    (TonePlaces { ispe, pixi, colr }, positions)
 }

@@ -1,5 +1,5 @@
--- The sizes of the boxes that the code computes, heads included, and those of the payloads: each is the definition's, or stands for it where a byte part is too long for a file.
-use Rattle.std.specs.Prelude.{◌≡◌, ◌+◌, ◌≤◌}
+-- The sizes of the boxes that the code computes, heads included: each is the definition's.
+use Rattle.std.specs.Prelude.{◌≡◌, ◌+◌}
 use Rattle.panel.specs.Panel.{Panel}
 use Rattle.panel.specs.Form.{Form}
 use Rattle.heif.specs.Items.{shape}
@@ -12,10 +12,8 @@ use Rattle.heif.specs.Iref.{iref_size}
 use Rattle.heif.specs.Iprp.{iprp_size}
 use Rattle.heif.specs.Idat.{idat_size}
 use Rattle.heif.specs.Meta.{meta_size}
-use Rattle.heif.specs.Mdat.{exif_size, mdat_size}
-use Rattle.plan_items.specs.Payloads.{payload_lengths}
-use Rattle.plan_sizes.specs.Capped.{Capped, CappedPayloads}
-use Rattle.plan_sizes.specs.declared.Sizes.{Sizes}
+use Rattle.heif.specs.Mdat.{mdat_size}
+use Rattle.plan_sizes.specs.declared.sizes.Sizes.{Sizes}
 
 pub record Sized (f : Form) (p : Panel) (y : Sizes) : Type 0 where
   pub ftyp : y.ftyp ≡ 8 + head_size p
@@ -24,15 +22,7 @@ pub record Sized (f : Form) (p : Panel) (y : Sizes) : Type 0 where
   pub iref : y.iref ≡ 8 + iref_size f (shape p)
   pub ipma : y.ipma ≡ 8 + ipma_size f p
   pub idat : y.idat ≡ 8 + idat_size p.dims
-  pub ipco : Capped 4294967295 y.ipco (8 + ipco_size p)
-  pub iprp : Capped 4294967295 y.iprp (8 + iprp_size f p)
-  pub meta : Capped 4294967295 y.meta (8 + meta_size f p)
-  pub mdat : Capped 4294967295 y.mdat (8 + mdat_size p)
-  -- the payloads behind the samples
-  pub exif : Capped 4294967295 y.exif (exif_size p.metadata.exif)
-  pub gain : CappedPayloads y.gain (payload_lengths p.gain)
-
--- their sums do not wrap
-pub record Small (y : Sizes) : Type 0 where
-  pub meta : y.meta ≤ 90000000000
-  pub mdat : y.mdat ≤ 90000000000
+  pub ipco : y.ipco ≡ 8 + ipco_size p
+  pub iprp : y.iprp ≡ 8 + iprp_size f p
+  pub meta : y.meta ≡ 8 + meta_size f p
+  pub mdat : y.mdat ≡ 8 + mdat_size p

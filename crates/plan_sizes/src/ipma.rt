@@ -1,64 +1,49 @@
-// The size of ipma, by how many properties each item names.
+// The size of ipma, by how many properties each item is associated with.
 ghost use Rattle.std.specs.Prelude.{◌≡◌, ◌+◌, ◌*◌, ◌≤◌, length};
-ghost use mathlib.Core.List.{flat_map};
 ghost use Rattle.panel.specs.Form.{form_of};
-ghost use Rattle.heif.specs.Ipma.{colour_associations, alpha_associations, associations, association, ipma, association_size};
-ghost use Rattle.plan_runs.specs.Roles.{its_of, NarrowPlaces};
+ghost use Rattle.heif.specs.Ipma.{association_size, associations, ipma};
+ghost use Rattle.plan_runs.specs.Lists.{listed};
+ghost use Rattle.plan_runs.specs.Roles.{its_of};
 
-use panel::part::when;
-use panel::{FileForm, Shape};
+use panel::FileForm;
+use panel::when::when;
 use plan_items::form::ids_bytes;
-use plan_runs::Places;
-use plan_runs::counts::{
-    alpha_grid_count, alpha_tile_count, color_grid_count, color_tile_count, image_count, tone_count,
+use plan_items::items::Items;
+use plan_runs::lists::{
+    alpha_grid_list, alpha_tile_list, color_grid_list, color_tile_list, count, image_list,
+    tone_list,
 };
+use plan_runs::{Places, Run};
 
-// How many bytes the entries of a picture take: those of n tiles with so many properties each, and that of its grid.
-fn entries_size(form: FileForm, n: u32, tile: u8, grid: u8) -> u32
-    requires n_bound { n ≤ 65536 }
-    requires tile_bound { tile ≤ 6 }
-    requires grid_bound { grid ≤ 14 }
-    ensures value { result ≡ association_size (form_of form) tile * n + association_size (form_of form) grid }
-    ensures upper_bound { result ≤ 730000 }
+// The entry of an item that is associated with these: an id, a count, and a byte for each.
+fn entry_size(form: FileForm, list: &[(Run, bool)]) -> u32
+    requires { length list.now ≤ 7 }
+    ensures value { result ≡ association_size (form_of form) (length (listed list.now)) }
+    ensures upper_bound { result ≤ 894 }
 {
-    (1 + tile) as u32 * n + (1 + grid) as u32 + ids_bytes(form, n + 1)
+    ids_bytes(form, 1) + 1 + count(list) as u32
 }
 
-// Those of the colour picture.
-fn color_entries_size(form: FileForm, s: Shape, y: Places) -> u32
-    requires tiles_bound { s.tiles ≤ 65536 }
-    requires narrow_places { NarrowPlaces y }
-    ensures value { result ≡ length (flat_map (association (form_of form)) (colour_associations s (its_of y))) }
-    ensures upper_bound { result ≤ 730000 }
+// The entries of a picture: those of its n tiles, and its grid's.
+fn picture_size(form: FileForm, n: u32, tile: &[(Run, bool)], grid: &[(Run, bool)]) -> u32
+    requires few { n ≤ 65535 }
+    requires few_of_tile { length tile.now ≤ 7 }
+    requires few_of_grid { length grid.now ≤ 7 }
+    ensures value { result ≡ association_size (form_of form) (length (listed tile.now)) * n + association_size (form_of form) (length (listed grid.now)) }
+    ensures upper_bound { result ≤ 58600000 }
 {
-    let tile = color_tile_count(y);
-    let grid = color_grid_count(y);
-    entries_size(form, s.tiles, tile, grid)
+    entry_size(form, tile) * n + entry_size(form, grid)
 }
 
-// Those of the alpha picture.
-fn alpha_entries_size(form: FileForm, s: Shape, y: Places) -> u32
-    requires tiles_bound { s.tiles ≤ 65536 }
-    requires narrow_places { NarrowPlaces y }
-    ensures value { result ≡ length (flat_map (association (form_of form)) (alpha_associations s (its_of y))) }
-    ensures upper_bound { result ≤ 730000 }
+// ipma, the whole box: the entries of both pictures, of the gain image and of the tone map.
+pub(crate) fn ipma_size(form: FileForm, s: Items, places: &Places) -> u32
+    ensures value { result ≡ 8 + length (ipma (form_of form) (associations s (its_of places.now))).body }
+    ensures upper_bound { result ≤ 120000000 }
 {
-    let tile = alpha_tile_count(y);
-    let grid = alpha_grid_count(y);
-    entries_size(form, s.tiles, tile, grid)
-}
-
-// ipma, the whole box.
-pub(crate) fn ipma_size(form: FileForm, s: Shape, y: Places) -> u32
-    requires tiles_bound { s.tiles ≤ 65536 }
-    requires narrow_places { NarrowPlaces y }
-    ensures value { result ≡ 8 + length (ipma (form_of form) (associations s (its_of y))).body }
-    ensures upper_bound { result ≤ 1500000 }
-{
-    let colors = color_entries_size(form, s, y);
-    let alphas = alpha_entries_size(form, s, y);
-    let head = ids_bytes(form, 1) + 1;
-    let images = when(s.gain, head + image_count(y) as u32);
-    let tones = when(s.tone, head + tone_count(y) as u32);
-    16 + (colors + (alphas + (images + tones)))
+    let n = s.tiles();
+    let color = picture_size(form, n, &color_tile_list(places), &color_grid_list(places));
+    let alpha = picture_size(form, n, &alpha_tile_list(places), &alpha_grid_list(places));
+    let image = entry_size(form, &image_list(places));
+    let tone = entry_size(form, &tone_list(places));
+    16 + color + alpha + when(s.has_gain(), image) + when(s.has_tone(), tone)
 }

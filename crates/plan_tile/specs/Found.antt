@@ -19,11 +19,14 @@ lent_tiles_of p = lent_tiles p.tiles.lengths p.alpha.lengths p.tiles.bytes p.alp
 abbrev pub read : ℕ → ℕ → List ℕ → ℕ
 read k i bytes = value (take k (drop i bytes))
 
--- where the entry of an item begins: behind ftyp, the 12 bytes that head meta, hdlr, pitm and the 16 bytes that head iloc; an entry has 16 bytes, and ids rise from 1
+-- where the entry of an item begins: behind ftyp, the 12 bytes that head meta, hdlr, pitm and the 16 bytes that head iloc; an entry has 16
+-- bytes, and ids rise from 1
 unfoldable pub entry_at : Panel → ℕ → ℕ
 entry_at p id = length (boxes (head p ∷ [])) + (12 + (length (boxes (hdlr ∷ pitm ordinary (shape p) ∷ [])) + (16 + 16 * (id - 1))))
 
--- x is what iloc's entry of an item says: the entry at its place has its id; its construction method, in the last 4 of 16 bits whose others are reserved, is 0, so that offsets are the file's own; it has one extent; and the bytes of the file from the extent's offset on, as many as its length, are x
+-- x is what iloc's entry of an item says: the entry at its place has its id; its construction method, in the last 4 of 16 bits whose others
+-- are reserved, is 0, so that offsets are the file's own; it has one extent; and the bytes of the file from the extent's offset on, as many
+-- as its length, are x
 pub record Locates (p : Panel) (id : ℕ) (x : List ℕ) : Type 0 where
   pub its_id : read 2 (entry_at p id) (file ordinary p) ≡ id
   pub its_method : read 2 (entry_at p id + 2) (file ordinary p) ≡ 0

@@ -1,5 +1,5 @@
 -- The tile lookup: why an item id is refused, which bytes are its tile's payload, and where among the lent bytes they lie.
-use Rattle.std.specs.Prelude.{Bool, true, false, ◌&&◌, ◌||◌, not, cond, List, [], ◌∷◌, ℕ, zero, suc, ◌+◌, ◌*◌, ◌-◌, leb, ltb, eqb, length, take, get_or}
+use Rattle.std.specs.Prelude.{Bool, true, false, ◌&&◌, ◌||◌, not, cond, List, [], ◌∷◌, ℕ, zero, suc, ◌+◌, ◌*◌, ◌-◌, leb, ltb, eqb, length, take, get_or, Result, Ok, Err}
 use Rattle.octets.specs.Numbers.{total}
 use Rattle.heif.specs.Mdat.{samples}
 use Rattle.heif.specs.Refusal.{Check, check, first, differ}
@@ -71,23 +71,22 @@ tile_bytes id p =
 
 -- tile k of a picture: in which picture's bytes, from where on, and how many
 abbrev pub span_of : Bool → List ℕ → ℕ → TileSpan
-span_of alpha lengths k = record { refusal = 0; alpha = alpha; start = total (take k lengths); size = get_or lengths k 0 }
+span_of alpha lengths k = record { alpha = alpha; start = total (take k lengths); size = get_or lengths k 0 }
 
--- none: the number of the refusal, and else zeros
-abbrev pub no_span : ℕ → TileSpan
-no_span k = record { refusal = k; alpha = false; start = 0; size = 0 }
-
-unfoldable pub tile_span : ℕ → LentTiles → TileSpan
+-- the span of the tile that an id names, or the number of the refusal
+unfoldable pub tile_span : ℕ → LentTiles → Result TileSpan ℕ
 tile_span id p =
     let n = length p.colours in
     let colour = span_of false p.colours (colour_index id) in
     let alpha = span_of true p.alphas (alpha_index n id) in
-    accepted_or (tile_refusal id p) (cond (names_colour n id) colour alpha) (no_span (tile_refusal id p))
+    accepted_or (tile_refusal id p) (Ok (cond (names_colour n id) colour alpha)) (Err (tile_refusal id p))
 
 -- where bytes are lent: the block that holds them, and their offset in it
 abbrev pub Address : Type 0
 Address = ℕ × ℕ
 
--- where a span lies, of colour bytes and alpha bytes that are lent there
-abbrev pub span_address : TileSpan → Address → Address → Address
-span_address s colour alpha = let a = cond s.alpha alpha colour in (a.0, s.start + a.1)
+-- where the part that is answered lies, of colour bytes and alpha bytes that are lent there: at the span, and where there is none, at the
+-- first colour byte
+abbrev pub span_address : Result TileSpan ℕ → Address → Address → Address
+span_address (Ok s) colour alpha = let a = cond s.alpha alpha colour in (a.0, s.start + a.1)
+span_address (Err k) colour alpha = colour

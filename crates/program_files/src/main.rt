@@ -10,51 +10,27 @@ mod names;
 
 use crate::lookups::print_lookups;
 use crate::names::write_names;
-use panel::color::{
-    Cicp, ColorMetadata, MatrixCoefficients, MaybeCicp, MaybeColorMetadata, Primaries,
-    TransferFunction,
-};
+use panel::color::{Cicp, ColorMetadata, MatrixCoefficients, Primaries, TransferFunction};
 use panel::fmt::BitDepth;
-use panel::gain_map::{EncodedGainMap, MaybeGainMap};
-use panel::metadata::{ContentLightLevel, MaybeLightLevel, Metadata, Orientation};
-use panel::part::Part;
-use panel::{GridDims, Panel};
+use panel::gain_map::EncodedGainMap;
+use panel::metadata::{ContentLightLevel, Metadata, Orientation};
+use panel::{GridDims, Panel, Samples, Tiles};
 use std::io;
 use write_file::wrap_hevc_grid_with_alpha;
 
-// The colour of the picture and of its alternate, by code points and by a profile.
-fn wide() -> ColorMetadata {
-    ColorMetadata {
-        cicp: MaybeCicp::Some(Cicp {
-            primaries: Primaries::Bt2020,
-            transfer: TransferFunction::Smpte2084,
-            matrix: MatrixCoefficients::Bt2020Ncl,
-            full_range: false,
-        }),
-        icc: Part::Present,
+// The code points of the picture and of its alternate.
+fn wide() -> Cicp {
+    Cicp {
+        primaries: Primaries::Bt2020,
+        transfer: TransferFunction::Smpte2084,
+        matrix: MatrixCoefficients::Bt2020Ncl,
+        full_range: false,
     }
 }
 
-// The numbers of a gain map with a tone map.
-fn gain() -> EncodedGainMap {
-    EncodedGainMap {
-        width: 32,
-        height: 16,
-        bit_depth: BitDepth::Eight,
-        cicp: Cicp {
-            primaries: Primaries::Bt709,
-            transfer: TransferFunction::Srgb,
-            matrix: MatrixCoefficients::Identity,
-            full_range: true,
-        },
-        tmap: Part::Present,
-        alternate_color: MaybeColorMetadata::Some(wide()),
-    }
-}
-
-// The numbers of a panel with every part: two tiles of 64 × 48 for a picture of 100 × 40.
-fn full() -> Panel {
-    Panel {
+// Writes a panel with every part, two tiles of 64 × 48 for a picture of 100 × 40, and the four bytes of the output behind its file.
+fn write_full(rt: &impl Print) -> io::Result<()> {
+    let panel = Panel {
         dims: GridDims {
             cols: 2,
             rows: 1,
@@ -65,39 +41,54 @@ fn full() -> Panel {
         },
         bit_depth: BitDepth::Ten,
         alpha_bit_depth: BitDepth::Ten,
-        color_meta: wide(),
+        color: Tiles {
+            hvcc: &[1, 4, 7],
+            samples: Samples {
+                lengths: &[2, 1],
+                bytes: &[0xA1, 0xA2, 0xA3],
+            },
+        },
+        alpha: Tiles {
+            hvcc: &[1, 1],
+            samples: Samples {
+                lengths: &[1, 3],
+                bytes: &[0xB1, 0xB2, 0xB3, 0xB4],
+            },
+        },
+        color_meta: ColorMetadata {
+            cicp: Some(wide()),
+            icc: Some(&[0x11, 0x12, 0x13]),
+        },
         metadata: Metadata {
             orientation: Orientation::Transverse,
-            content_light_level: MaybeLightLevel::Some(ContentLightLevel {
+            content_light_level: Some(ContentLightLevel {
                 max_content_light_level: 1000,
                 max_pic_average_light_level: 400,
             }),
-            exif: Part::Present,
+            exif: Some(&[0x21, 0x22]),
         },
-        gain_map: MaybeGainMap::Some(gain()),
-    }
-}
-
-// Writes the panel with every part, and the four bytes of the output behind its file.
-fn write_full(rt: &impl Print) -> io::Result<()> {
+        gain_map: Some(EncodedGainMap {
+            hvcc: &[1, 1, 0x33],
+            sample: &[0x31, 0x32],
+            width: 32,
+            height: 16,
+            bit_depth: BitDepth::Eight,
+            cicp: Cicp {
+                primaries: Primaries::Bt709,
+                transfer: TransferFunction::Srgb,
+                matrix: MatrixCoefficients::Identity,
+                full_range: true,
+            },
+            xmp: &[0x41, 0x42, 0x43],
+            tmap: Some(&[0x51]),
+            alternate_color: Some(ColorMetadata {
+                cicp: Some(wide()),
+                icc: Some(&[0x61, 0x62]),
+            }),
+        }),
+    };
     let mut out = [0xEEu8; 1186];
-    wrap_hevc_grid_with_alpha(
-        full(),
-        &[1, 4, 7],
-        &[1, 1],
-        &[2, 1],
-        &[1, 3],
-        &[0xA1, 0xA2, 0xA3],
-        &[0xB1, 0xB2, 0xB3, 0xB4],
-        &[0x11, 0x12, 0x13],
-        &[0x21, 0x22],
-        &[1, 1, 0x33],
-        &[0x31, 0x32],
-        &[0x41, 0x42, 0x43],
-        &[0x51],
-        &[0x61, 0x62],
-        &mut out,
-    );
+    let _ = wrap_hevc_grid_with_alpha(&panel, &mut out);
     rt.write_all(&out)
 }
 

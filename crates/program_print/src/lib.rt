@@ -5,23 +5,17 @@ mod words;
 
 ghost use Rattle.std.specs.Prelude.{◌≤◌, length, IfOk};
 
-use sheet_file::{SheetAnswer, sheet_file};
+use sheet_fields::SheetRefusal;
+use sheet_file::sheet_file;
 use std::io;
 use std::io::Read;
 use words::words_of;
-
-// What stands on standard output: a whole file, of so many bytes; a refusal, by its number; or not all of either.
-#[derive(Clone, Copy)]
-pub enum Printed {
-    File(u64),
-    Refusal(u8),
-    Cut,
-}
 
 // Fills the room from its front until it is full or the input ends, and answers how many bytes were read.
 pub fn read_full(input: &mut impl Read, room: &mut [u8]) -> io::Result<usize>
     ensures within { IfOk result (λ n. n ≤ length room.new) }
 {
+    // By `while`: how far a read got is what the next one begins at, and no iterator goes in such steps; `read_exact` refuses a short input.
     let mut n = 0;
     while n < room.len() {
         let more = input.read(&mut room[n..])?;
@@ -33,50 +27,25 @@ pub fn read_full(input: &mut impl Read, room: &mut [u8]) -> io::Result<usize>
     Ok(n)
 }
 
-// Prints so many bytes of the room, and answers whether all of them were taken. A file is never longer than the room that it was written
-// into.
-fn print_file(rt: &impl Print, room: &[u8], size: u64) -> bool {
-    let n = size as usize;
-    if n <= room.len() {
-        return rt.write_all(&room[0..n]).is_ok();
-    }
-    false
-}
-
-// Prints the number of a refusal, and answers whether all of it was taken.
-fn print_refusal(rt: &impl Print, number: u8) -> bool {
-    println!(rt; "refused {number}").is_ok()
-}
-
-// What was printed, if it was printed whole.
-fn if_whole(whole: bool, printed: Printed) -> Printed {
-    if whole { printed } else { Printed::Cut }
-}
-
-// Prints what a sheet is answered, with room for a file of 32,768 bytes.
-pub fn print_sheet_file(rt: &impl Print, sheet: &[u8]) -> Printed {
+// Prints what a sheet is answered, with room for a file of 32,768 bytes: a whole file, of so many bytes, or a refusal, by its number. An
+// error says that not all of it could be printed.
+pub fn print_sheet_file(rt: &impl Print, sheet: &[u8]) -> io::Result<Result<u64, SheetRefusal>> {
     let mut room = [0u8; 32768];
-    match sheet_file(sheet, &mut room) {
-        SheetAnswer::Length(size) => if_whole(print_file(rt, &room, size), Printed::File(size)),
-        SheetAnswer::Refused(number) => {
-            if_whole(print_refusal(rt, number), Printed::Refusal(number))
-        }
+    let answer = sheet_file(sheet, &mut room);
+    match answer {
+        Ok(size) => rt.write_all(&room[..size as usize])?,
+        Err(refusal) => println!(rt; "refused {}", refusal.number())?,
     }
+    Ok(answer)
 }
 
 // Says on standard error what became of a sheet, in one line that begins with `written`, `refused` or `failed`.
-pub fn say(rt: &impl Eprint, printed: Printed) -> io::Result<()> {
+pub fn say(rt: &impl Eprint, printed: io::Result<Result<u64, SheetRefusal>>) -> io::Result<()> {
     match printed {
-        Printed::File(size) => eprintln!(rt; "written {size} bytes"),
-        Printed::Refusal(number) => say_refusal(rt, number),
-        Printed::Cut => say_failed(rt, "not all of it could be written"),
+        Ok(Ok(size)) => eprintln!(rt; "written {size} bytes"),
+        Ok(Err(refusal)) => eprintln!(rt; "refused {}: {}", refusal.number(), words_of(refusal)),
+        Err(_) => say_failed(rt, "not all of it could be written"),
     }
-}
-
-// Says on standard error that the sheet is refused, with the number and what it means.
-fn say_refusal(rt: &impl Eprint, number: u8) -> io::Result<()> {
-    let words = words_of(number);
-    eprintln!(rt; "refused {number}: {words}")
 }
 
 // Says on standard error that something failed, and what.

@@ -1,24 +1,16 @@
 // Prints what each of the sheets in data/ is answered, in the order of the arguments, with a line feed behind each answer.
 #![tactic(auto)]
 
-use program_print::{Printed, print_sheet_file, read_full};
+use program_print::{print_sheet_file, read_full};
 use std::fs::File;
 use std::{env, io};
-
-// Whether what a sheet is answered stands on standard output, whole.
-fn is_whole(printed: Printed) -> bool {
-    match printed {
-        Printed::Cut => false,
-        _ => true,
-    }
-}
 
 // Prints what the sheet in a file is answered; false where not all of it could be printed.
 fn run(rt: &HostRuntime, path: &str) -> io::Result<bool> {
     let mut input = [0u8; 12289];
     let mut file = File::open(rt, path)?;
     let n = read_full(&mut file, &mut input)?;
-    if !is_whole(print_sheet_file(rt, &input[..n])) {
+    if print_sheet_file(rt, &input[..n]).is_err() {
         return Ok(false);
     }
     println!(rt)?;

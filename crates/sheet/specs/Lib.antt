@@ -1,3 +1,3 @@
 pub mod Sheet
-pub mod Said
+pub mod Of
 pub mod Answer

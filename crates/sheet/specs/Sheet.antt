@@ -1,6 +1,5 @@
 -- The panel sheet: the panel that a list of bytes says, or the first refusal in reading order.
-use Rattle.std.specs.Prelude.{Bool, cond, List, ℕ, ◌*◌, ltb, length}
-use Rattle.std.proofs.Math.Option.{Option, none, get_or}
+use Rattle.std.specs.Prelude.{Bool, cond, List, ℕ, ◌*◌, ltb, length, Option, None, unwrap_or}
 use Rattle.octets.specs.Numbers.{total}
 use Rattle.panel.specs.Panel.{Tiles, Colour, Metadata, Gain, Panel}
 use Rattle.panel.specs.Agreement.{filled}
@@ -44,7 +43,7 @@ colour has_cicp has_icc =
 
 -- Normal if its bit is off
 unfoldable pub oriented : Bool → Reader Orientation
-oriented stands = optional stands orientation then λ o. give (get_or o Normal)
+oriented stands = optional stands orientation then λ o. give (unwrap_or o Normal)
 
 unfoldable pub light : Reader ContentLightLevel
 light =
@@ -69,7 +68,7 @@ image =
     depth then λ d.
     cicp then λ c.
     string then λ xmp.
-    give (record { hvcc = hvcc; sample = sample; width = width; height = height; depth = d; cicp = c; xmp = xmp; tone = none; alternate = none })
+    give (record { hvcc = hvcc; sample = sample; width = width; height = height; depth = d; cicp = c; xmp = xmp; tone = None; alternate = None })
 
 -- an alternate colour is there if one of its two fields is
 unfoldable pub alternate : Map → Reader (Option Colour)

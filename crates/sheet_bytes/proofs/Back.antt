@@ -1,7 +1,7 @@
 -- Reading the sheet of a panel gives the panel back.
 use mathlib.Core.Path.{◌≡◌, refl, sym, ap, ◌∙◌}
 use mathlib.Core.Bool.{cond}
-use mathlib.Core.Option.{Option, none, some}
+use Rattle.std.specs.Prelude.{Option, None, Some, is_some}
 use mathlib.Core.List.{List, []}
 use Prim.Native.Nat.{ℕ, ◌*◌, ◌^◌, ◌≤◌, ◌<◌}
 use native.Mathlib.Omega.{arith}
@@ -9,7 +9,7 @@ use lib.ListN.{length, length-append}
 use borrow.Author.Tests.{le-ltb}
 use Rattle.octets.specs.Numbers.{total}
 use Rattle.panel.specs.Panel.{Colour, Gain, Panel}
-use Rattle.panel.specs.Parts.{has, tone_of}
+use Rattle.panel.specs.Parts.{tone_of}
 use Rattle.panel.specs.Agreement.{shown, filled}
 use Rattle.panel.specs.Widths.{Of, LightFits, GainFits}
 use Rattle.panel.specs.declared.metadata.ContentLightLevel.{ContentLightLevel}
@@ -30,17 +30,17 @@ use Rattle.sheet_bytes.proofs.Maps.{off_map}
 
 -- P of what is present, from P of everything
 of_all : {A : Type 0} {P : A → Type 0} → ((a : A) → P a) → (o : Option A) → Of P o
-of_all h none = tt
-of_all h (some a) = h a
+of_all h None = tt
+of_all h (Some a) = h a
 
 of_map : {A : Type 0} {P Q : A → Type 0} → ((a : A) → P a → Q a) → (o : Option A) → Of P o → Of Q o
-of_map h none p = tt
-of_map h (some a) p = h a p
+of_map h None p = tt
+of_map h (Some a) p = h a p
 
-off_strings : (o : Option (List ℕ)) → Says (optional (has o) string) (optional_bytes string_bytes o) o
+off_strings : (o : Option (List ℕ)) → Says (optional (is_some o) string) (optional_bytes string_bytes o) o
 off_strings o = off_optional string string_bytes o (of_all off_string o)
 
-off_cicps : (o : Option _) → Says (optional (has o) cicp) (optional_bytes cicp_bytes o) o
+off_cicps : (o : Option _) → Says (optional (is_some o) cicp) (optional_bytes cicp_bytes o) o
 off_cicps o = off_optional cicp cicp_bytes o (of_all off_cicp o)
 
 off_pictures : (n : ℕ) (p : Pictures) → Tiled n p.colour → Tiled n p.alpha → total p.colour.lengths < 2 ^ 32 → total p.alpha.lengths < 2 ^ 32 → Says (two_pictures n) (pictures_bytes p) p
@@ -55,7 +55,7 @@ off_pictures n p c a hc ha =
 
 -- ---- fields that may be left out
 
-off_colour : (c : Colour) → Says (colour (has c.cicp) (has c.icc)) (colour_bytes c) c
+off_colour : (c : Colour) → Says (colour (is_some c.cicp) (is_some c.icc)) (colour_bytes c) c
 unfolding colour
 off_colour c = and_then _ (off_cicps c.cicp) (closes _ (off_strings c.icc) refl)
 
@@ -75,7 +75,7 @@ off_metadata p f =
 -- ---- the gain map
 
 abbrev plain : Gain → Gain
-plain g = record { hvcc = g.hvcc; sample = g.sample; width = g.width; height = g.height; depth = g.depth; cicp = g.cicp; xmp = g.xmp; tone = none; alternate = none }
+plain g = record { hvcc = g.hvcc; sample = g.sample; width = g.width; height = g.height; depth = g.depth; cicp = g.cicp; xmp = g.xmp; tone = None; alternate = None }
 
 off_image : (g : Gain) → GainFits g → Says image (image_bytes g) (plain g)
 unfolding image
@@ -89,29 +89,26 @@ off_image g f =
     (closes _ (off_string g.xmp) refl))))))
 
 filled_back : (tone : Option (List ℕ)) (a : Option Colour) → shown tone a ≡ a → filled (cicp_in a) (icc_in a) ≡ a
-filled_back none none e = refl
-filled_back none (some c) e = absurd (let z : ◌≡◌ {A = ℕ} 0 1 = cc in omega arith)
-filled_back (some t) none e = refl
-filled_back (some t) (some c) e = e
+filled_back t a e = grind arith
 
 module _ (m : Map) where
-  off_alternate : (a : Option Colour) → m.alternate_cicp ≡ has (cicp_in a) → m.alternate_icc ≡ has (icc_in a) → Says (alternate m) (alternate_bytes a) (filled (cicp_in a) (icc_in a))
+  off_alternate : (a : Option Colour) → m.alternate_cicp ≡ is_some (cicp_in a) → m.alternate_icc ≡ is_some (icc_in a) → Says (alternate m) (alternate_bytes a) (filled (cicp_in a) (icc_in a))
   unfolding alternate
   off_alternate a e f = rw (e, f) (closes _ (off_colour (record { cicp = cicp_in a; icc = icc_in a })) refl)
 
-  off_tone : (o : Option (List ℕ)) → m.tmap ≡ has o → Says (optional m.tmap string) (optional_bytes string_bytes o) o
+  off_tone : (o : Option (List ℕ)) → m.tmap ≡ is_some o → Says (optional m.tmap string) (optional_bytes string_bytes o) o
   off_tone o e = rw e (off_strings o)
 
-  off_gain : (g : Gain) → m.tmap ≡ has g.tone → m.alternate_cicp ≡ has (cicp_in g.alternate) → m.alternate_icc ≡ has (icc_in g.alternate) → GainFits g → Shown g → Says (gain m) (gain_bytes g) g
+  off_gain : (g : Gain) → m.tmap ≡ is_some g.tone → m.alternate_cicp ≡ is_some (cicp_in g.alternate) → m.alternate_icc ≡ is_some (icc_in g.alternate) → GainFits g → Shown g → Says (gain m) (gain_bytes g) g
   unfolding gain
   off_gain g e e' e'' f h =
       and_then _ (off_image g f)
       (and_then _ (off_tone g.tone e)
       (closes _ (as_well (filled_back g.tone g.alternate h.same) (off_alternate g.alternate e' e'')) refl))
 
-  off_gains : (o : Option Gain) → m.tmap ≡ has (tone_of o) → m.alternate_cicp ≡ has (cicp_in (alternate_in o)) → m.alternate_icc ≡ has (icc_in (alternate_in o)) → Of GainFits o → Of Shown o → Of (λ g. Says (gain m) (gain_bytes g) g) o
-  off_gains none e e' e'' f h = tt
-  off_gains (some g) e e' e'' f h = off_gain g e e' e'' f h
+  off_gains : (o : Option Gain) → m.tmap ≡ is_some (tone_of o) → m.alternate_cicp ≡ is_some (cicp_in (alternate_in o)) → m.alternate_icc ≡ is_some (icc_in (alternate_in o)) → Of GainFits o → Of Shown o → Of (λ g. Says (gain m) (gain_bytes g) g) o
+  off_gains None e e' e'' f h = tt
+  off_gains (Some g) e e' e'' f h = off_gain g e e' e'' f h
 
 -- ---- the sheet
 
@@ -121,10 +118,10 @@ module _ (p : Panel) (h : Sayable p) where
   off_dims =
       and_then _ (off_number 2 p.dims.cols h.cols)
       (and_then _ (off_number 2 p.dims.rows h.rows)
-      (and_then _ (off_number 4 p.dims.tile_w h.fits.tile_w)
-      (and_then _ (off_number 4 p.dims.tile_h h.fits.tile_h)
-      (and_then _ (off_number 4 p.dims.full_w h.fits.full_w)
-      (closes _ (off_number 4 p.dims.full_h h.fits.full_h) refl)))))
+      (and_then _ (off_number 4 p.dims.tile_w h.fits.dims.tile_w)
+      (and_then _ (off_number 4 p.dims.tile_h h.fits.dims.tile_h)
+      (and_then _ (off_number 4 p.dims.full_w h.fits.dims.full_w)
+      (closes _ (off_number 4 p.dims.full_h h.fits.dims.full_h) refl)))))
 
   bytes-short : (length p.tiles.bytes ≤ 12288) × (length p.alpha.bytes ≤ 12288)
   unfolding sheet_bytes

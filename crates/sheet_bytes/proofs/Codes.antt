@@ -1,7 +1,8 @@
 -- Each code, read back from its bytes.
 use mathlib.Core.Path.{◌≡◌, refl}
-use mathlib.Core.Bool.{Bool, true, false}
-use mathlib.Core.Option.{some, get_or}
+use mathlib.Core.Bool.{Bool}
+use native.Mathlib.Omega.{arith}
+use Rattle.std.specs.Prelude.{Some, unwrap_or}
 use Rattle.octets.specs.Numbers.{be, value}
 use Rattle.panel.specs.Types.{primaries_code, transfer_code, matrix_code}
 use Rattle.panel.specs.Codes.{primaries_named, transfer_named, matrix_named}
@@ -13,55 +14,37 @@ use Rattle.panel.specs.declared.color.MatrixCoefficients.{MatrixCoefficients}
 use Rattle.panel.specs.declared.color.MatrixCoefficients.TheVariants as M
 use Rattle.panel.specs.declared.color.Cicp.{Cicp}
 use Rattle.panel.specs.declared.fmt.BitDepth.{BitDepth}
-use Rattle.panel.specs.declared.fmt.BitDepth.TheVariants.{Eight, Ten, Twelve}
 use Rattle.panel.specs.declared.metadata.Orientation.{Orientation}
-use Rattle.panel.specs.declared.metadata.Orientation.TheVariants.{Normal, FlipH, Rotate180, FlipV, Transpose, Rotate90, Transverse, Rotate270}
+use Rattle.panel.specs.declared.metadata.Orientation.TheVariants.{Normal}
 use Rattle.panel_codes.specs.Codes.{depth_code, every_depth, depth_named, orientation_code, every_orientation, orientation_named, bool_code}
 use Rattle.panel_codes.specs.Codes.{every_bool, yes_no}
 use Rattle.sheet_fields.specs.Codes.{depth, orientation, cicp}
 use Rattle.sheet_bytes.specs.Bytes.{cicp_bytes, orientation_bytes, turned}
 use Rattle.sheet_bytes.proofs.Says.{Says, and_then, closes, off_code}
 
-depth_back : (d : BitDepth) → depth_named (value (be 1 (depth_code d))) ≡ some d
+depth_back : (d : BitDepth) → depth_named (value (be 1 (depth_code d))) ≡ Some d
 unfolding every_depth
-depth_back Eight = refl
-depth_back Ten = refl
-depth_back Twelve = refl
+depth_back d = grind arith
 
 pub off_depth : (d : BitDepth) → Says depth (be 1 (depth_code d)) d
 off_depth d = off_code 1 (depth_code d) depth_named (depth_back d)
 
-orientation_back : (o : Orientation) → orientation_named (value (be 1 (orientation_code o))) ≡ some o
+orientation_back : (o : Orientation) → orientation_named (value (be 1 (orientation_code o))) ≡ Some o
 unfolding every_orientation
-orientation_back Normal = refl
-orientation_back FlipH = refl
-orientation_back Rotate180 = refl
-orientation_back FlipV = refl
-orientation_back Transpose = refl
-orientation_back Rotate90 = refl
-orientation_back Transverse = refl
-orientation_back Rotate270 = refl
+orientation_back o = grind arith
 
 pub off_orientation : (o : Orientation) → Says orientation (orientation_bytes o) o
 off_orientation o = off_code 1 (orientation_code o) orientation_named (orientation_back o)
 
 -- an orientation that is left out is Normal
-pub turned_back : (o : Orientation) → get_or (turned o) Normal ≡ o
-turned_back Normal = refl
-turned_back FlipH = refl
-turned_back Rotate180 = refl
-turned_back FlipV = refl
-turned_back Transpose = refl
-turned_back Rotate90 = refl
-turned_back Transverse = refl
-turned_back Rotate270 = refl
+pub turned_back : (o : Orientation) → unwrap_or (turned o) Normal ≡ o
+turned_back o = grind arith
 
-range_back : (b : Bool) → yes_no (value (be 1 (bool_code b))) ≡ some b
+range_back : (b : Bool) → yes_no (value (be 1 (bool_code b))) ≡ Some b
 unfolding every_bool
-range_back false = refl
-range_back true = refl
+range_back b = grind arith
 
-primaries_back : (a : Primaries) → primaries_named (value (be 2 (primaries_code a))) ≡ some a
+primaries_back : (a : Primaries) → primaries_named (value (be 2 (primaries_code a))) ≡ Some a
 primaries_back P.Reserved = refl
 primaries_back P.Bt709 = refl
 primaries_back P.Unspecified = refl
@@ -76,7 +59,7 @@ primaries_back P.Smpte431 = refl
 primaries_back P.Smpte432 = refl
 primaries_back P.Ebu3213 = refl
 
-transfer_back : (a : TransferFunction) → transfer_named (value (be 2 (transfer_code a))) ≡ some a
+transfer_back : (a : TransferFunction) → transfer_named (value (be 2 (transfer_code a))) ≡ Some a
 transfer_back T.Reserved = refl
 transfer_back T.Bt709 = refl
 transfer_back T.Unspecified = refl
@@ -96,7 +79,7 @@ transfer_back T.Smpte2084 = refl
 transfer_back T.Smpte428 = refl
 transfer_back T.Hlg = refl
 
-matrix_back : (a : MatrixCoefficients) → matrix_named (value (be 2 (matrix_code a))) ≡ some a
+matrix_back : (a : MatrixCoefficients) → matrix_named (value (be 2 (matrix_code a))) ≡ Some a
 matrix_back M.Identity = refl
 matrix_back M.Bt709 = refl
 matrix_back M.Unspecified = refl

@@ -1,7 +1,7 @@
 -- No sheet is answered 2, 3, 4 or 5: of the panel that it says, only a side of the grid or the room can be refused.
 use mathlib.Core.Path.{◌≡◌, refl, sym, ap, ◌∙◌}
 use mathlib.Core.Bool.{Bool, true, false, ◌||◌, ◌&&◌, not, cond}
-use mathlib.Core.Option.{Option, none, some}
+use Rattle.std.specs.Prelude.{Option, None, Some, is_some}
 use mathlib.Core.List.{List, [], ◌∷◌, ◌++◌, map}
 use Prim.Native.Nat.{ℕ, ◌+◌, ◌*◌, ◌^◌, ◌≤◌, ◌<◌}
 use native.Mathlib.Omega.{arith}
@@ -11,13 +11,12 @@ use borrow.Author.Tests.{eq-eqb, le-ltb, ltb-false}
 use Rattle.octets.specs.Numbers.{◌‖◌, total}
 use Rattle.panel.specs.Panel.{Colour, Gain, Panel}
 use Rattle.panel.specs.Form.{ordinary}
-use Rattle.panel.specs.Parts.{has, given}
+use Rattle.panel.specs.Parts.{given}
 use Rattle.panel.specs.Widths.{Of}
 use Rattle.panel.specs.Outcome.{refused, outcome}
 use Rattle.panel.specs.declared.GridDims.{GridDims}
 use Rattle.panel.specs.declared.color.Cicp.{Cicp}
 use Rattle.panel.specs.declared.metadata.Orientation.{Orientation}
-use Rattle.panel.specs.declared.metadata.Orientation.TheVariants.{Normal, FlipH, Rotate180, FlipV, Transpose, Rotate90, Transverse, Rotate270}
 use Rattle.heif.specs.Items.{shape, last_id, Even}
 use Rattle.heif.specs.Idat.{wide}
 use Rattle.heif.specs.Hvcc.{rext}
@@ -46,65 +45,49 @@ shares-append [] y = omega arith
 shares-append (e ∷ x) y = omega (arith, shares-append x y)
 
 cond_small : (b : Bool) (n : ℕ) → cond b n 0 ≤ n
-cond_small true n = omega arith
-cond_small false n = omega arith
+cond_small b n = grind arith
 
 given_small : (b : Bool) (e : Extra) → shares (given b (e ∷ [])) ≤ share e
 unfolding shares
-given_small true e = omega arith
-given_small false e = omega arith
+given_small b e = grind arith
 
 turns_small : (o : Orientation) → (shares (turn_extras o) ≤ 22) × (turn_count o ≤ 2)
 unfolding shares
-turns_small Normal = (omega arith, omega arith)
-turns_small FlipH = (omega arith, omega arith)
-turns_small Rotate180 = (omega arith, omega arith)
-turns_small FlipV = (omega arith, omega arith)
-turns_small Transpose = (omega arith, omega arith)
-turns_small Rotate90 = (omega arith, omega arith)
-turns_small Transverse = (omega arith, omega arith)
-turns_small Rotate270 = (omega arith, omega arith)
+turns_small o = grind arith
 
 exif_small : (o : Option (List ℕ)) → Of Short o → shares (exif_extras o) ≤ 12343
 unfolding shares
-exif_small none h = omega arith
-exif_small (some e) h = omega arith
+exif_small o h = grind arith
 
 colour_small : (c : Option Cicp) (i : Option (List ℕ)) → Of Short i → shares (colour_extras c i) ≤ 12301
 unfolding shares
-colour_small none none h = omega arith
-colour_small (some c) none h = omega arith
-colour_small none (some i) h = omega arith
-colour_small (some c) (some i) h = omega arith
+colour_small c i h = grind arith
 
 profile_small : (i : Option (List ℕ)) → Of Short i → shares (profile_extras i) ≤ 12301
 unfolding shares
-profile_small none h = omega arith
-profile_small (some i) h = omega arith
+profile_small i h = grind arith
 
 alternate_small : (a : Option Colour) → Of ShortColour a → shares (alternate_extras a) ≤ 12321
 unfolding shares
-alternate_small none h = omega arith
-alternate_small (some a) h = omega (arith, shares-append (given (has a.cicp) (alternate_cicp ∷ [])) (profile_extras a.icc), given_small (has a.cicp) alternate_cicp, profile_small a.icc h.icc)
+alternate_small None h = omega arith
+alternate_small (Some a) h = omega (arith, shares-append (given (is_some a.cicp) (alternate_cicp ∷ [])) (profile_extras a.icc), given_small (is_some a.cicp) alternate_cicp, profile_small a.icc h.icc)
 
 tone_small : (t : Option (List ℕ)) (a : Option Colour) → Of Short t → Of ShortColour a → shares (tone_extras t a) ≤ 24743
 unfolding shares
-tone_small none a h k = omega arith
-tone_small (some t) a h k = omega (arith, alternate_small a k)
+tone_small None a h k = omega arith
+tone_small (Some t) a h k = omega (arith, alternate_small a k)
 
 gain_small : (g : Option Gain) → Of ShortGain g → shares (gain_extras g) ≤ 61850
 unfolding shares
-gain_small none h = omega arith
-gain_small (some g) h = omega (arith, h.hvcc, h.sample, h.xmp, tone_small g.tone g.alternate h.tone h.alternate)
+gain_small None h = omega arith
+gain_small (Some g) h = omega (arith, h.hvcc, h.sample, h.xmp, tone_small g.tone g.alternate h.tone h.alternate)
 
 grid_small : (d : GridDims) → shares (grid_extras d) ≤ 8
 grid_small d = given_small (wide d) wide_grid
 
 first_of : (b1 b2 b3 b4 b5 b6 : Bool) → b2 ≡ false → b3 ≡ false → b4 ≡ false → b5 ≡ false
     → ◌≡◌ {A = ℕ} (elim b1 [ true ↦ 1 | false ↦ elim b2 [ true ↦ 2 | false ↦ elim b3 [ true ↦ 3 | false ↦ elim b4 [ true ↦ 4 | false ↦ elim b5 [ true ↦ 5 | false ↦ elim b6 [ true ↦ 6 | false ↦ 0 ] ] ] ] ] ]) (cond b1 1 (cond b6 6 0))
-first_of true b2 b3 b4 b5 b6 e2 e3 e4 e5 = refl
-first_of false b2 b3 b4 b5 true e2 e3 e4 e5 = rw (e2, e3, e4, e5)
-first_of false b2 b3 b4 b5 false e2 e3 e4 e5 = rw (e2, e3, e4, e5)
+first_of b1 b2 b3 b4 b5 b6 e2 e3 e4 e5 = grind arith
 
 module _ (p : Panel) (b : Bounded p) where
   even : Even p
@@ -122,7 +105,7 @@ module _ (p : Panel) (b : Bounded p) where
       let c = colour_extras p.colour.cicp p.colour.icc in
       let g = gain_extras p.gain in
       let x = exif_extras p.metadata.exif in
-      let l = given (has p.metadata.light) (light_level ∷ []) in
+      let l = given (is_some p.metadata.light) (light_level ∷ []) in
       omega (
         arith,
         shares-append (grid_extras p.dims) (turn_extras o ‖ l ‖ x ‖ c ‖ g),
@@ -132,7 +115,7 @@ module _ (p : Panel) (b : Bounded p) where
         shares-append c g,
         grid_small p.dims,
         (turns_small o).0,
-        given_small (has p.metadata.light) light_level,
+        given_small (is_some p.metadata.light) light_level,
         exif_small p.metadata.exif b.metadata.exif,
         colour_small p.colour.cicp p.colour.icc b.colour.icc,
         gain_small p.gain b.gain,
@@ -144,7 +127,7 @@ module _ (p : Panel) (b : Bounded p) where
         arith,
         length_as_sum p even,
         extras_small,
-        cond_small (has p.gain) (turn_count p.metadata.orientation),
+        cond_small (is_some p.gain) (turn_count p.metadata.orientation),
         (turns_small p.metadata.orientation).1,
         cond_small (gain_rext p.gain && not (rext p.tiles.hvcc)) 4,
         b.pictures.tiles,
@@ -185,7 +168,7 @@ module _ (s rest : List ℕ) (p : Panel) (e : sheet s ≡ got p rest) where
   held = go (ltb 12288 (length s)) refl e
     where
       go : (b : Bool) → ltb 12288 (length s) ≡ b → cond b (stop 15) (fields s) ≡ got p rest → Bounded p
-      go true h e = absurd (let z : ◌≡◌ {A = ℕ} 0 1 = cc in omega arith)
+      go true h e = cc
       go false h e = (a-panel.yields s rest p (ltb-false 12288 (length s) h) e).0
 
   -- the panel that a sheet says is refused by 1, by 6, or not at all
@@ -194,16 +177,10 @@ module _ (s rest : List ℕ) (p : Panel) (e : sheet s ≡ got p rest) where
 
 stops_late : (s : List ℕ) (k : ℕ) → sheet s ≡ stop k → 11 ≤ k
 unfolding sheet
-stops_late s k e = go (ltb 12288 (length s)) refl e
-  where
-    go : (b : Bool) → ltb 12288 (length s) ≡ b → cond b (stop 15) (fields s) ≡ stop k → 11 ≤ k
-    go true h e = let v : 15 ≡ k = cc in omega arith
-    go false h e = a-panel.stops s k (ltb-false 12288 (length s) h) e
+stops_late s k e = grind (arith, a-panel.stops)
 
 outside : (b1 b6 : Bool) (size k : ℕ) → outcome (cond b1 1 (cond b6 6 0)) size ≡ refused k → 2 ≤ k → k ≤ 5 → ⊥
-outside true b6 size k e l m = let v : 1 ≡ k = cc in omega arith
-outside false true size k e l m = let v : 6 ≡ k = cc in omega arith
-outside false false size k e l m = let z : ◌≡◌ {A = ℕ} 0 1 = cc in omega arith
+outside b1 b6 size k e l m = grind arith
 
 -- no sheet is answered 2, 3, 4 or 5
 pub never : (s : List ℕ) (room k : ℕ) → sheet_answer s room ≡ refused k → 2 ≤ k → k ≤ 5 → ⊥

@@ -1,7 +1,7 @@
 -- What a reader gets back from the bytes that were made for it: the value, and whatever lies behind them.
 use mathlib.Core.Path.{◌≡◌, refl, sym, ap, ◌∙◌}
 use mathlib.Core.Bool.{cond}
-use mathlib.Core.Option.{Option, none, some}
+use Rattle.std.specs.Prelude.{Option, None, Some, is_some}
 use mathlib.Core.List.{List, [], ◌∷◌, ◌++◌, flat_map, append_assoc, append-nil}
 use Prim.Native.Nat.{ℕ, ◌*◌, ◌^◌, ◌≤◌, ◌<◌}
 use native.Mathlib.Omega.{arith}
@@ -11,7 +11,6 @@ use borrow.Author.Tests.{le-ltb}
 use Rattle.octets.specs.Numbers.{◌‖◌, be, total, value}
 use Rattle.octets.proofs.Numbers.{length-be, value-be}
 use Rattle.octets.proofs.Lists.{length-flat_map}
-use Rattle.panel.specs.Parts.{has}
 use Rattle.panel.specs.Widths.{Of}
 use Rattle.sheet_fields.specs.Read.{Reader, got, stop, give, onward, ◌then◌}
 use Rattle.sheet_fields.specs.Fields.{bytes, number, string, words, lengths, known, coded, optional}
@@ -26,7 +25,6 @@ pub record Says {A : Type 0} (f : Reader A) (x : List ℕ) (a : A) : Type 0 wher
 
 module _ {A B : Type 0} {f : Reader A} {x : List ℕ} {a : A} where
   pub and_then : (g : A → Reader B) {y : List ℕ} {b : B} → Says f x a → Says (g a) y b → Says (f then g) (x ‖ y) b
-  unfolding ◌then◌
   and_then g {y} {b} h k = record {
     says = λ l rest.
         let s = length-append x y in
@@ -35,7 +33,6 @@ module _ {A B : Type 0} {f : Reader A} {x : List ℕ} {a : A} where
 
   -- where what follows takes no bytes
   pub closes : (g : A → Reader B) {b : B} → Says f x a → g a ≡ give b → Says (f then g) x b
-  unfolding ◌then◌
   closes g h e = record { says = λ l rest. ap (λ r. onward r g) (h.says l rest) ∙ ap (λ r. r rest) e }
 
 -- the same value by another name
@@ -80,14 +77,13 @@ off_lengths l n e h =
 
 -- ---- codes, and fields that may be left out
 
-pub off_code : {A : Type 0} (k c : ℕ) (named : ℕ → Option A) {a : A} → named (value (be k c)) ≡ some a → Says (coded k named) (be k c) a
-unfolding coded
+pub off_code : {A : Type 0} (k c : ℕ) (named : ℕ → Option A) {a : A} → named (value (be k c)) ≡ Some a → Says (coded k named) (be k c) a
 off_code k c named e = closes _ (off_be k c) (ap known e)
 
-pub off_optional : {A : Type 0} (f : Reader A) (print : A → List ℕ) (o : Option A) → Of (λ a. Says f (print a) a) o → Says (optional (has o) f) (optional_bytes print o) o
+pub off_optional : {A : Type 0} (f : Reader A) (print : A → List ℕ) (o : Option A) → Of (λ a. Says f (print a) a) o → Says (optional (is_some o) f) (optional_bytes print o) o
 unfolding optional
-off_optional f print none h = off_none
-off_optional f print (some a) h = closes _ h refl
+off_optional f print None h = off_none
+off_optional f print (Some a) h = closes _ h refl
 
 -- ---- to the end
 
@@ -96,7 +92,6 @@ pub record Ends {A : Type 0} (f : Reader A) (x : List ℕ) (a : A) : Type 0 wher
 
 module _ {A B : Type 0} {f : Reader A} {x : List ℕ} {a : A} where
   pub and-ends : (g : A → Reader B) {y : List ℕ} {b : B} → Says f x a → Ends (g a) y b → Ends (f then g) (x ‖ y) b
-  unfolding ◌then◌
   and-ends g {y} h k = record {
     ends = λ l.
         let s = length-append x y in
@@ -104,5 +99,5 @@ module _ {A B : Type 0} {f : Reader A} {x : List ℕ} {a : A} where
   }
 
   pub last-ends : (make : A → B) → Says f x a → Ends (f then λ v. end (make v)) x (make a)
-  unfolding ◌then◌ end
+  unfolding end
   last-ends make h = record { ends = λ l. ap (λ z. onward (f z) (λ v. end (make v))) (sym (append-nil x)) ∙ ap (λ r. onward r (λ v. end (make v))) (h.says l []) }

@@ -1,15 +1,13 @@
 -- What holds of every value that is read off a sheet of at most 12,288 bytes: no part of it is longer, and the lengths fit the bytes;
 -- and every refusal on the way has a number from 11 on.
-use mathlib.Core.Path.{◌≡◌, refl, sym, ap, ◌∙◌}
-use mathlib.Core.Bool.{Bool, true, false, cond}
-use mathlib.Core.Option.{Option, none, some}
-use mathlib.Core.List.{List, [], ◌∷◌}
+use mathlib.Core.Path.{◌≡◌, refl, sym, ap}
+use mathlib.Core.Bool.{Bool, true, false}
+use Rattle.std.specs.Prelude.{Option, None, Some}
+use mathlib.Core.List.{List}
 use Prim.Native.Nat.{ℕ, zero, suc, ◌*◌, ◌≤◌}
 use native.Mathlib.Omega.{arith}
-use lib.Dec.{ltb}
-use lib.ListN.{length, take, drop, length-drop}
+use lib.ListN.{length, drop, length-drop}
 use lib.Seq.{length-take-le}
-use borrow.Author.Tests.{ltb-false}
 use Rattle.octets.specs.Numbers.{total}
 use Rattle.panel.specs.Panel.{Colour, Metadata, Gain, Panel}
 use Rattle.panel.specs.Agreement.{filled}
@@ -18,7 +16,7 @@ use Rattle.panel.specs.declared.color.Cicp.{Cicp}
 use Rattle.sheet_fields.specs.Read.{Read, Reader, got, stop, give, onward, ◌then◌}
 use Rattle.sheet_fields.specs.Fields.{bytes, number, string, words, lengths, known, coded, optional}
 use Rattle.sheet_fields.specs.Codes.{cicp}
-use Rattle.sheet_frame.specs.Map.{map_of, bad_map, judged, sheet_map}
+use Rattle.sheet_frame.specs.Map.{judged, sheet_map}
 use Rattle.sheet_frame.specs.Frame.{dims, end}
 use Rattle.sheet_frame.specs.declared.map.Map.{Map}
 use Rattle.sheet.specs.Sheet.{Pictures, two_pictures, colour, oriented, light, metadata, image, alternate, gain, fields}
@@ -38,7 +36,6 @@ Any a = Unit {0}
 
 module _ {A B : Type 0} {P : A → Type 0} {Q : B → Type 0} {f : Reader A} where
   seq : (g : A → Reader B) → Yields f P → ((a : A) → P a → Yields (g a) Q) → Yields (f then g) Q
-  unfolding ◌then◌
   seq g h k = record { yields = λ s rest b l e. go s rest b l (f s) refl e; stops = λ s n l e. halt s n l (f s) refl e }
     where
       halt : (s : List ℕ) (n : ℕ) → Short s → (r : Read A) → f s ≡ r → onward r g ≡ stop n → 11 ≤ n
@@ -47,42 +44,20 @@ module _ {A B : Type 0} {P : A → Type 0} {Q : B → Type 0} {f : Reader A} whe
 
       go : (s rest : List ℕ) (b : B) → Short s → (r : Read A) → f s ≡ r → onward r g ≡ got b rest → Q b × Short rest
       go s rest b l (got a t) e e' = let x = h.yields s t a l e in (k a x.0).yields t rest b x.1 e'
-      go s rest b l (stop n) e e' = absurd (let z : ◌≡◌ {A = ℕ} 0 1 = cc in omega arith)
+      go s rest b l (stop n) e e' = cc
 
 gives : {A : Type 0} {P : A → Type 0} {a : A} → P a → Yields (give a) P
-gives {a = a} p = record { yields = λ s rest b l e. let v : a ≡ b = cc in let t : s ≡ rest = cc in (rw v at p, rw t at l); stops = λ s k l e. absurd (let z : ◌≡◌ {A = ℕ} 0 1 = cc in omega arith) }
+gives p = record { yields = λ s rest b l e. grind arith; stops = λ s k l e. grind arith }
 
 ended : {A : Type 0} {P : A → Type 0} (a : A) → P a → Yields (end a) P
 unfolding end
-ended {A} {P} a p = record { yields = go; stops = halt }
-  where
-    halt : (s : List ℕ) (k : ℕ) → Short s → end a s ≡ stop k → 11 ≤ k
-    halt [] k l e = absurd (let z : ◌≡◌ {A = ℕ} 0 1 = cc in omega arith)
-    halt (x ∷ s) k l e = let v : 14 ≡ k = cc in omega arith
-
-    go : (s rest : List ℕ) (b : A) → Short s → end a s ≡ got b rest → P b × Short rest
-    go [] rest b l e = let v : a ≡ b = cc in let t : [] ≡ rest = cc in (rw v at p, omega (arith, ap length t))
-    go (x ∷ s) rest b l e = absurd (let z : ◌≡◌ {A = ℕ} 0 1 = cc in omega arith)
+ended a p = record { yields = λ s rest b l e. grind arith; stops = λ s k l e. grind arith }
 
 -- ---- fields
 
 some_bytes : (n : ℕ) → Yields (bytes n) (λ x. (length x ≡ n) × Short x)
 unfolding bytes
-some_bytes n = record { yields = λ s rest x l e. go s rest x l (ltb (length s) n) refl e; stops = λ s k l e. halt s k (ltb (length s) n) e }
-  where
-    halt : (s : List ℕ) (k : ℕ) (b : Bool) → cond b (stop 11) (got (take n s) (drop n s)) ≡ stop k → 11 ≤ k
-    halt s k true e = let v : 11 ≡ k = cc in omega arith
-    halt s k false e = absurd (let z : ◌≡◌ {A = ℕ} 0 1 = cc in omega arith)
-
-    go : (s rest x : List ℕ) → Short s → (b : Bool) → ltb (length s) n ≡ b → cond b (stop 11) (got (take n s) (drop n s)) ≡ got x rest → ((length x ≡ n) × Short x) × Short rest
-    go s rest x l true h e = absurd (let z : ◌≡◌ {A = ℕ} 0 1 = cc in omega arith)
-    go s rest x l false h e =
-        let v : take n s ≡ x = cc in
-        let t : drop n s ≡ rest = cc in
-        let m : length (take n s) ≡ n = length-take-le n s (ltb-false _ _ h) in
-        let i : length x ≡ n = ap length (sym v) ∙ m in
-        let j : n ≤ length s = ltb-false (length s) n h in
-        ((i, omega arith), omega (arith, ap length t, length-drop n s))
+some_bytes n = record { yields = λ s rest x l e. grind (arith, length-take-le, length-drop); stops = λ s k l e. grind arith }
 
 a-number : (k : ℕ) → Yields (number k) Any
 unfolding number
@@ -90,7 +65,7 @@ a-number k = seq _ (some_bytes k) (λ x h. gives tt)
 
 a-string : Yields string Short
 unfolding string
-a-string = seq _ (a-number 4) (λ n h. record { yields = λ s rest x l e. let r = (some_bytes n).yields s rest x l e in (r.0.1, r.1); stops = λ s k l e. (some_bytes n).stops s k l e })
+a-string = seq _ (a-number 4) (λ n h. let x = some_bytes n in record { yields = λ s rest a l e. let r = x.yields s rest a l e in (r.0.1, r.1); stops = x.stops })
 
 length-words : (n : ℕ) (x : List ℕ) → length (words n x) ≡ n
 length-words zero x = refl
@@ -101,11 +76,9 @@ unfolding lengths
 some-lengths n = seq _ (some_bytes (4 * n)) (λ x h. gives (length-words n x, omega arith))
 
 a-known : {A : Type 0} (o : Option A) → Yields (known o) Any
-a-known none = record { yields = λ s rest a l e. absurd (let z : ◌≡◌ {A = ℕ} 0 1 = cc in omega arith); stops = λ s k l e. let v : 13 ≡ k = cc in omega arith }
-a-known (some a) = gives tt
+a-known o = record { yields = λ s rest a l e. grind arith; stops = λ s k l e. grind arith }
 
 a_code : {A : Type 0} (k : ℕ) (named : ℕ → Option A) → Yields (coded k named) Any
-unfolding coded
 a_code k named = seq _ (a-number k) (λ n h. a-known (named n))
 
 maybe : {A : Type 0} {P : A → Type 0} {f : Reader A} (b : Bool) → Yields f P → Yields (optional b f) (Of P)
@@ -121,11 +94,7 @@ a-cicp = seq _ (a_code 2 _) (λ p h. seq _ (a_code 2 _) (λ t h. seq _ (a_code 2
 
 a-map : Yields sheet_map Any
 unfolding sheet_map judged
-a-map = seq _ (a-number 2) (λ bits h. pick (bad_map bits (map_of bits)) bits)
-  where
-    pick : (b : Bool) (bits : ℕ) → Yields (cond b (λ s. stop 12) (give (map_of bits))) Any
-    pick true bits = record { yields = λ s rest a l e. absurd (let z : ◌≡◌ {A = ℕ} 0 1 = cc in omega arith); stops = λ s k l e. let v : 12 ≡ k = cc in omega arith }
-    pick false bits = gives tt
+a-map = seq _ (a-number 2) (λ bits h. record { yields = λ s rest m l e. grind arith; stops = λ s k l e. grind arith })
 
 some-dims : Yields dims Any
 unfolding dims
@@ -192,9 +161,9 @@ an_image =
     seq _ (a_code 1 _) (λ d h. seq _ a-cicp (λ k h. seq _ a-string (λ x hx. gives (hc, hs, hx))))))))
 
 short-filled : (c : Option Cicp) (i : Option (List ℕ)) → Of Short i → Of ShortColour (filled c i)
-short-filled (some c) i h = record { icc = h }
-short-filled none (some i) h = record { icc = h }
-short-filled none none h = tt
+short-filled (Some c) i h = record { icc = h }
+short-filled None (Some i) h = record { icc = h }
+short-filled None None h = tt
 
 an_alternate : (m : Map) → Yields (alternate m) (Of ShortColour)
 unfolding alternate

@@ -1,11 +1,10 @@
 -- The sheet of a panel: its fields as bytes, in the order in which a sheet has them.
-use Rattle.std.specs.Prelude.{Bool, cond, ℕ, ◌+◌, ◌*◌, length}
-use Rattle.std.proofs.Math.Option.{Option, none, some}
+use Rattle.std.specs.Prelude.{Bool, cond, ℕ, ◌+◌, ◌*◌, length, Option, None, Some, is_some}
 use mathlib.Core.List.{List, [], flat_map}
 use Rattle.octets.specs.Numbers.{◌‖◌, be}
 use Rattle.panel.specs.Types.{primaries_code, transfer_code, matrix_code}
 use Rattle.panel.specs.Panel.{Colour, Metadata, Gain, Panel}
-use Rattle.panel.specs.Parts.{has, tone_of}
+use Rattle.panel.specs.Parts.{tone_of}
 use Rattle.panel.specs.declared.GridDims.{GridDims}
 use Rattle.panel.specs.declared.color.Cicp.{Cicp}
 use Rattle.panel.specs.declared.metadata.ContentLightLevel.{ContentLightLevel}
@@ -23,8 +22,8 @@ cicp_bytes c = be 2 (primaries_code c.primaries) ‖ be 2 (transfer_code c.trans
 
 -- what is absent has no bytes
 abbrev pub optional_bytes : {A : Type 0} → (A → List ℕ) → Option A → List ℕ
-optional_bytes print none = []
-optional_bytes print (some a) = print a
+optional_bytes print None = []
+optional_bytes print (Some a) = print a
 
 abbrev pub dims_bytes : GridDims → List ℕ
 dims_bytes d = be 2 d.cols ‖ be 2 d.rows ‖ be 4 d.tile_w ‖ be 4 d.tile_h ‖ be 4 d.full_w ‖ be 4 d.full_h
@@ -46,14 +45,14 @@ colour_bytes c = optional_bytes cicp_bytes c.cicp ‖ optional_bytes string_byte
 
 -- an orientation that is Normal is left out
 abbrev pub turned : Orientation → Option Orientation
-turned Normal = none
-turned FlipH = some FlipH
-turned Rotate180 = some Rotate180
-turned FlipV = some FlipV
-turned Transpose = some Transpose
-turned Rotate90 = some Rotate90
-turned Transverse = some Transverse
-turned Rotate270 = some Rotate270
+turned Normal = None
+turned FlipH = Some FlipH
+turned Rotate180 = Some Rotate180
+turned FlipV = Some FlipV
+turned Transpose = Some Transpose
+turned Rotate90 = Some Rotate90
+turned Transverse = Some Transverse
+turned Rotate270 = Some Rotate270
 
 abbrev pub orientation_bytes : Orientation → List ℕ
 orientation_bytes o = be 1 (orientation_code o)
@@ -75,12 +74,12 @@ image_bytes g =
     ‖ string_bytes g.xmp
 
 abbrev pub cicp_in : Option Colour → Option Cicp
-cicp_in none = none
-cicp_in (some c) = c.cicp
+cicp_in None = None
+cicp_in (Some c) = c.cicp
 
 abbrev pub icc_in : Option Colour → Option (List ℕ)
-icc_in none = none
-icc_in (some c) = c.icc
+icc_in None = None
+icc_in (Some c) = c.icc
 
 abbrev pub alternate_bytes : Option Colour → List ℕ
 alternate_bytes a = optional_bytes cicp_bytes (cicp_in a) ‖ optional_bytes string_bytes (icc_in a)
@@ -89,22 +88,22 @@ abbrev pub gain_bytes : Gain → List ℕ
 gain_bytes g = image_bytes g ‖ optional_bytes string_bytes g.tone ‖ alternate_bytes g.alternate
 
 abbrev pub alternate_in : Option Gain → Option Colour
-alternate_in none = none
-alternate_in (some g) = g.alternate
+alternate_in None = None
+alternate_in (Some g) = g.alternate
 
 -- which of the fields that may be left out a panel has
 abbrev pub present : Panel → Map
 present p =
     record {
-      cicp = has p.colour.cicp;
-      icc = has p.colour.icc;
-      orientation = has (turned p.metadata.orientation);
-      light_level = has p.metadata.light;
-      exif = has p.metadata.exif;
-      gain_map = has p.gain;
-      tmap = has (tone_of p.gain);
-      alternate_cicp = has (cicp_in (alternate_in p.gain));
-      alternate_icc = has (icc_in (alternate_in p.gain));
+      cicp = is_some p.colour.cicp;
+      icc = is_some p.colour.icc;
+      orientation = is_some (turned p.metadata.orientation);
+      light_level = is_some p.metadata.light;
+      exif = is_some p.metadata.exif;
+      gain_map = is_some p.gain;
+      tmap = is_some (tone_of p.gain);
+      alternate_cicp = is_some (cicp_in (alternate_in p.gain));
+      alternate_icc = is_some (icc_in (alternate_in p.gain));
     }
 
 abbrev pub weight : Bool → ℕ

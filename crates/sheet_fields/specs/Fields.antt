@@ -1,6 +1,5 @@
 -- The fields of a sheet: runs of bytes, numbers, byte strings, codes, lists of lengths, and a field that may be left out.
-use Rattle.std.specs.Prelude.{Bool, true, false, cond, List, [], ◌∷◌, ℕ, zero, suc, ◌*◌, ltb, length, take, drop}
-use Rattle.std.proofs.Math.Option.{Option, none, some}
+use Rattle.std.specs.Prelude.{Bool, true, false, cond, List, [], ◌∷◌, ℕ, zero, suc, ◌*◌, ltb, length, take, drop, Option, None, Some}
 use Rattle.octets.specs.Numbers.{value}
 use Rattle.sheet_fields.specs.Read.{Reader, got, stop, give, refuse, ◌then◌}
 
@@ -27,18 +26,14 @@ lengths n = bytes (4 * n) then λ x. give (words n x)
 
 -- 13 where a code names nothing
 abbrev pub known : {A : Type 0} → Option A → Reader A
-known none = refuse 13
-known (some a) = give a
+known None = refuse 13
+known (Some a) = give a
 
 -- a code of k bytes
-unfoldable pub coded : {A : Type 0} → ℕ → (ℕ → Option A) → Reader A
+abbrev pub coded : {A : Type 0} → ℕ → (ℕ → Option A) → Reader A
 coded k named = number k then λ n. known (named n)
-
--- the number of a code of k bytes; 13 where it is none
-unfoldable pub code_number : ℕ → (ℕ → Bool) → Reader ℕ
-code_number k is_code = number k then λ n. cond (is_code n) (give n) (refuse 13)
 
 -- a field that is there only if its bit stands
 unfoldable pub optional : {A : Type 0} → Bool → Reader A → Reader (Option A)
-optional true f = f then λ a. give (some a)
-optional false f = give none
+optional true f = f then λ a. give (Some a)
+optional false f = give None

@@ -1,4 +1,4 @@
 pub mod Read
 pub mod Fields
 pub mod Codes
-pub mod Cursor
+pub mod Reads

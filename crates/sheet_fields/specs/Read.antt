@@ -22,5 +22,5 @@ onward (stop k) g = stop k
 
 infixr 20 ◌then◌
 -- one field, and then what follows it; the first refusal stands
-unfoldable pub ◌then◌ : {A B : Type 0} → Reader A → (A → Reader B) → Reader B
+abbrev pub ◌then◌ : {A B : Type 0} → Reader A → (A → Reader B) → Reader B
 (f then g) s = onward (f s) g

@@ -1,188 +1,152 @@
-// The fields of a panel sheet, each read from a cursor on. A reading that has met a refusal stays at it: what is read after that says nothing.
+// The fields of a panel sheet, each read off the bytes that are left. The first refusal ends the reading.
 
 #![tactic(auto)]
 
 pub mod code;
-pub mod optional;
 
-ghost use Rattle.std.specs.Prelude.{◌≡◌, ◌+◌, ◌*◌, ◌^◌, ◌≤◌, ◌<◌, length, take, drop};
-ghost use Rattle.octets.specs.Numbers.{total, value};
-ghost use Rattle.sheet_fields.specs.Fields.{bytes, number, string, words, lengths};
-ghost use Rattle.sheet_fields.specs.Cursor.{span_of, Reads, refused_at};
+ghost use Rattle.std.specs.Prelude.{◌≡◌, ◌*◌, ◌^◌, ◌≤◌, ◌<◌, length, IfOk, sum};
+ghost use Rattle.sheet_fields.specs.Fields.{bytes, number, string, lengths};
+ghost use Rattle.sheet_fields.specs.Reads.{Reads, sheet_number};
 
-// How far a sheet is read, and the number of the refusal that was met, 0 while there is none.
+use panel::Refusal;
+use panel_codes::UnknownCode;
+
+// Why a sheet is refused, each by its number.
 #[derive(Clone, Copy)]
-pub struct Cursor {
-    pub at: usize,
-    pub refusal: u8,
+pub enum SheetRefusal {
+    // 11: it ends before its fields do.
+    Short,
+    // 12: its map has a bit that says nothing, or one without the bit that it belongs to.
+    BadMap,
+    // 13: a code stands for nothing.
+    Code,
+    // 14: bytes are left over.
+    LeftOver,
+    // 15: it has more than 12,288 bytes.
+    TooLong,
+    // 1 to 6: its panel is refused.
+    Panel(Refusal),
 }
 
-// Where bytes lie in a sheet.
-#[derive(Clone, Copy)]
-pub struct Span {
-    pub at: usize,
-    pub size: usize,
-}
-
-// A run of bytes, and the cursor behind it.
-#[derive(Clone, Copy)]
-pub struct BytesRead {
-    pub span: Span,
-    pub next: Cursor,
-}
-
-// A number, and the cursor behind it.
-#[derive(Clone, Copy)]
-pub struct NumberRead {
-    pub value: u32,
-    pub next: Cursor,
-}
-
-// How many lengths were read, their sum, and the cursor behind them.
-#[derive(Clone, Copy)]
-pub struct LengthsRead {
-    pub count: usize,
-    pub sum: usize,
-    pub next: Cursor,
-}
-
-// The cursor after a refusal, unless one was met before.
-pub fn refused(c: Cursor, refusal: u8) -> Cursor
-    ensures { result ≡ refused_at c refusal }
-{
-    if c.refusal == 0 {
-        return Cursor { at: c.at, refusal };
-    }
-    c
-}
-
-// How many bytes are left.
-pub fn left(sheet: &[u8], at: usize) -> usize
-    ensures { result ≡ length (drop at sheet.now) }
-{
-    if sheet.len() < at {
-        return 0;
-    }
-    sheet.len() - at
-}
-
-// The bytes of a span, as far as the sheet goes.
-pub fn part(sheet: &[u8], span: Span) -> &[u8]
-    ensures { result.now ≡ span_of sheet.now span }
-{
-    let at = span.at;
-    let size = span.size;
-    if sheet.len() < at {
-        return &sheet[0..0];
-    }
-    if sheet.len() - at < size {
-        return &sheet[at..];
-    }
-    let end = at + size;
-    &sheet[at..end]
-}
-
-// The next n bytes.
-pub fn read_bytes(sheet: &[u8], c: Cursor, n: usize) -> BytesRead
-    ensures reads { Reads sheet.now c (bytes n) (span_of sheet.now result.span) result.next }
-    ensures size_le_n { result.span.size ≤ n }
-    ensures span_len { result.next.refusal ≡ 0 → length (span_of sheet.now result.span) ≡ n }
-{
-    let at = c.at;
-    if left(sheet, at) < n {
-        let next = refused(c, 11);
-        return BytesRead {
-            span: Span { at: 0, size: 0 },
-            next,
-        };
-    }
-    BytesRead {
-        span: Span { at, size: n },
-        next: Cursor {
-            at: at + n,
-            refusal: c.refusal,
-        },
+impl SheetRefusal {
+    // The number.
+    pub fn number(self) -> u8
+        ensures { result ≡ sheet_number self }
+    {
+        match self {
+            SheetRefusal::Short => 11,
+            SheetRefusal::BadMap => 12,
+            SheetRefusal::Code => 13,
+            SheetRefusal::LeftOver => 14,
+            SheetRefusal::TooLong => 15,
+            SheetRefusal::Panel(refusal) => refusal.number(),
+        }
     }
 }
 
-// The number that at most four bytes say, the highest first.
-fn value_of(x: &[u8]) -> u32
-    requires { length x.now ≤ 4 }
-    ensures value { result ≡ value x.now }
-    ensures upper_bound { result < 2 ^ (8 * length x.now) }
-{
-    let mut v: u32 = 0;
-    let mut i = 0;
-    while i < x.len() {
-        v = v * 256 + x[i] as u32;
-        i += 1;
+impl From<UnknownCode> for SheetRefusal {
+    ghost use Rattle.sheet_fields.specs.declared.SheetRefusal.TheVariants.{Code};
+
+    ghost from_gives = { λ _ e. e ≡ Code };
+
+    fn from(_code: UnknownCode) -> SheetRefusal {
+        SheetRefusal::Code
     }
-    v
 }
 
-// The number in the next k bytes.
-pub fn read_number(sheet: &[u8], c: Cursor, k: usize) -> NumberRead
-    requires { k ≤ 4 }
-    ensures reads { Reads sheet.now c (number k) result.value result.next }
-    ensures value_bound { result.value < 2 ^ (8 * k) }
-{
-    let x = read_bytes(sheet, c, k);
-    let span = x.span;
-    let next = x.next;
-    let value = value_of(part(sheet, span));
-    NumberRead { value, next }
-}
+impl From<Refusal> for SheetRefusal {
+    ghost use Rattle.sheet_fields.specs.declared.SheetRefusal.TheVariants.{Panel};
 
-// A byte string: a length of 32 bits, and so many bytes.
-pub fn read_string(sheet: &[u8], c: Cursor) -> BytesRead
-    ensures { Reads sheet.now c string (span_of sheet.now result.span) result.next }
-{
-    let n = read_number(sheet, c, 4);
-    let next = n.next;
-    read_bytes(sheet, next, n.value as usize)
-}
+    ghost from_gives = { λ refusal e. e ≡ Panel refusal };
 
-// The length in the four bytes at a position.
-fn length_at(x: &[u8], at: usize) -> u32
-    requires { at + 4 ≤ length x.now }
-    ensures { result ≡ value (take 4 (drop at x.now)) }
-{
-    let end = at + 4;
-    value_of(&x[at..end])
-}
-
-// Puts n lengths of four bytes each into the output, and answers their sum.
-fn put_lengths(x: &[u8], n: usize, out: &mut [u32]) -> usize
-    requires n_in_bounds { 4 * n ≤ length x.now }
-    requires n_in_bounds_2 { n ≤ length out.old }
-    requires n_bound { n < 4294967296 }
-    ensures out_after { take n out.new ≡ words n x.now }
-    ensures value { result ≡ total (words n x.now) }
-    ensures out_len_unchanged { length out.new ≡ length out.old }
-{
-    let mut sum: usize = 0;
-    let mut i = 0;
-    while i < n {
-        let v = length_at(x, i * 4);
-        out[i] = v;
-        sum += v as usize;
-        i += 1;
+    fn from(refusal: Refusal) -> SheetRefusal {
+        SheetRefusal::Panel(refusal)
     }
-    sum
 }
 
-// The next n lengths, into an output that has an entry for every four bytes of the sheet.
-pub fn read_lengths(sheet: &[u8], c: Cursor, n: u32, out: &mut [u32]) -> LengthsRead
-    requires { length sheet.now ≤ 4 * length out.old }
-    ensures reads { Reads sheet.now c (lengths n) (take result.count out.new) result.next }
-    ensures sum_value { result.sum ≡ total (take result.count out.new) }
-    ensures count_in_bounds { result.count ≤ length out.new }
+// A sheet that is being read.
+#[derive(Drop)]
+pub struct SheetReader<'a> {
+    // The bytes that are not read yet.
+    pub left: &'a [u8],
+}
+
+impl<'a> SheetReader<'a> {
+    // The next n bytes.
+    #[tactic(auto, unfolding(crate::specs::Fields::bytes))]
+    pub fn bytes(&mut self, n: usize) -> Result<&'a [u8], SheetRefusal>
+        ensures { Reads (bytes n) (λ x. x.now) self.old result self.new }
+    {
+        self.left.split_off(..n).ok_or(SheetRefusal::Short)
+    }
+
+    // The next N bytes, as an array.
+    #[tactic(auto, unfolding(crate::specs::Fields::bytes))]
+    fn array<const N: usize>(&mut self) -> Result<[u8; N], SheetRefusal>
+        ensures { Reads (bytes N) (λ x. x) self.old result self.new }
+    {
+        let (front, rest) = self.left.split_first_chunk().ok_or(SheetRefusal::Short)?;
+        self.left = rest;
+        Ok(*front)
+    }
+
+    // u8, u16 and u32 are three and not one over the type of the number, as the library's from_be_bytes is.
+
+    // A number of one byte.
+    #[tactic(auto, unfolding(crate::specs::Fields::number))]
+    pub fn u8(&mut self) -> Result<u8, SheetRefusal>
+        ensures { Reads (number 1) (λ n. n) self.old result self.new }
+    {
+        Ok(u8::from_be_bytes(self.array()?))
+    }
+
+    // A number of 16 bits, the higher byte first.
+    #[tactic(auto, unfolding(crate::specs::Fields::number))]
+    pub fn u16(&mut self) -> Result<u16, SheetRefusal>
+        ensures { Reads (number 2) (λ n. n) self.old result self.new }
+    {
+        Ok(u16::from_be_bytes(self.array()?))
+    }
+
+    // A number of 32 bits, the highest byte first.
+    #[tactic(auto, unfolding(crate::specs::Fields::number))]
+    pub fn u32(&mut self) -> Result<u32, SheetRefusal>
+        ensures { Reads (number 4) (λ n. n) self.old result self.new }
+    {
+        Ok(u32::from_be_bytes(self.array()?))
+    }
+
+    // A byte string: a length of 32 bits, and so many bytes.
+    #[tactic(auto, unfolding(crate::specs::Fields::string))]
+    pub fn string(&mut self) -> Result<&'a [u8], SheetRefusal>
+        ensures { Reads string (λ x. x.now) self.old result self.new }
+    {
+        let n = self.u32()?;
+        self.bytes(n as usize)
+    }
+
+    // n lengths of 32 bits, at the front of a list that has an entry for every four bytes that are left.
+    #[tactic(auto, using(crate::proofs::Lengths::next_word), unfolding(crate::specs::Fields::lengths, crate::specs::Fields::bytes))]
+    pub fn lengths<'l>(&mut self, n: u32, list: &'l mut [u32]) -> Result<&'l [u32], SheetRefusal>
+        requires { length self.old.left.now ≤ 4 * length list.old }
+        ensures reads { Reads (lengths n) (λ l. l.now) self.old result self.new }
+        ensures count { IfOk result (λ l. length l.now ≡ n) }
+    {
+        let bytes = self.bytes(4 * n as usize)?;
+        let mut words = SheetReader { left: bytes };
+        // Over the lengths, since each reading can be refused: no iterator of the library writes what another reads and stops there.
+        let front = &mut list[..n as usize];
+        for length in front.iter_mut() {
+            *length = words.u32()?;
+        }
+        Ok(front)
+    }
+}
+
+// The sum of lengths.
+pub fn sum_of(lengths: &[u32]) -> usize
+    requires { length lengths.now < 2 ^ 32 }
+    ensures { result ≡ sum lengths.now }
 {
-    let x = read_bytes(sheet, c, 4 * (n as usize));
-    let span = x.span;
-    let next = x.next;
-    let bytes = part(sheet, span);
-    let count = bytes.len() / 4;
-    let sum = put_lengths(bytes, count, out);
-    LengthsRead { count, sum, next }
+    lengths.iter().map(|length| *length as usize).sum()
 }

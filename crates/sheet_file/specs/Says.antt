@@ -1,8 +1,8 @@
 -- What the answer of the sheet's call says.
-use Rattle.panel.specs.Outcome.{Outcome, made, refused}
-use Rattle.sheet_file.specs.declared.SheetAnswer.{SheetAnswer}
-use Rattle.sheet_file.specs.declared.SheetAnswer.TheVariants.{Length, Refused}
+use Rattle.std.specs.Prelude.{ℕ, Result}
+use Rattle.panel.specs.Outcome.{Outcome, says_by}
+use Rattle.sheet_fields.specs.Reads.{sheet_number}
+use Rattle.sheet_fields.specs.declared.SheetRefusal.{SheetRefusal}
 
-abbrev pub sheet_says : SheetAnswer → Outcome
-sheet_says (Length n) = made n
-sheet_says (Refused k) = refused k
+abbrev pub sheet_says : Result ℕ SheetRefusal → Outcome
+sheet_says r = says_by sheet_number r

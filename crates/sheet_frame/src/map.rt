@@ -1,9 +1,9 @@
 // The map of a sheet: which of the fields that may be left out are there.
-ghost use Rattle.std.specs.Prelude.{◌≡◌, ◌||◌, List, ℕ};
-ghost use Rattle.sheet_fields.specs.Cursor.{Reads};
-ghost use Rattle.sheet_frame.specs.Map.{map_of, without, bad_map, judged, sheet_map};
+ghost use Rattle.std.specs.Prelude.{◌≡◌, ◌<◌};
+ghost use Rattle.sheet_fields.specs.Reads.{Reads};
+ghost use Rattle.sheet_frame.specs.Map.{bit, map_of, bad_map, sheet_map};
 
-use sheet_fields::{Cursor, read_number, refused};
+use sheet_fields::{SheetReader, SheetRefusal};
 
 // A bool for each bit, the lowest first.
 #[derive(Clone, Copy)]
@@ -19,77 +19,50 @@ pub struct Map {
     pub alternate_icc: bool,
 }
 
-// A map, and the cursor behind it.
-#[derive(Clone, Copy)]
-pub struct MapRead {
-    pub map: Map,
-    pub next: Cursor,
+// Whether bit i stands, bit 0 being the lowest.
+fn bit(i: u32, bits: u16) -> bool
+    requires { i < 16 }
+    ensures { result ≡ bit i bits }
+{
+    bits >> i & 1 == 1
 }
 
 // Bits 0 to 8.
-fn map_of(bits: u32) -> Map
+#[tactic(auto, unfolding(crate::specs::Map::map_of))]
+fn map_of(bits: u16) -> Map
     ensures { result ≡ map_of bits }
 {
     Map {
-        cicp: bits / 1 % 2 == 1,
-        icc: bits / 2 % 2 == 1,
-        orientation: bits / 4 % 2 == 1,
-        light_level: bits / 8 % 2 == 1,
-        exif: bits / 16 % 2 == 1,
-        gain_map: bits / 32 % 2 == 1,
-        tmap: bits / 64 % 2 == 1,
-        alternate_cicp: bits / 128 % 2 == 1,
-        alternate_icc: bits / 256 % 2 == 1,
+        cicp: bit(0, bits),
+        icc: bit(1, bits),
+        orientation: bit(2, bits),
+        light_level: bit(3, bits),
+        exif: bit(4, bits),
+        gain_map: bit(5, bits),
+        tmap: bit(6, bits),
+        alternate_cicp: bit(7, bits),
+        alternate_icc: bit(8, bits),
     }
-}
-
-// Whether one field stands without the other, which it belongs to.
-fn stands_without(a: bool, b: bool) -> bool
-    ensures { result ≡ without a b }
-{
-    a && !b
-}
-
-// Whether an alternate colour stands without a tone map.
-fn bad_alternate(m: Map) -> bool
-    ensures { result ≡ without (m.alternate_cicp || m.alternate_icc) m.tmap }
-{
-    if m.alternate_cicp {
-        return !m.tmap;
-    }
-    stands_without(m.alternate_icc, m.tmap)
 }
 
 // Whether a bit above 8 stands, or a field without the one that it belongs to.
-fn bad_map(bits: u32, m: Map) -> bool
-    ensures { result ≡ bad_map bits m }
+fn bad_map(bits: u16, map: Map) -> bool
+    ensures { result ≡ bad_map bits map }
 {
-    if 511 < bits {
-        return true;
-    }
-    if stands_without(m.tmap, m.gain_map) {
-        return true;
-    }
-    bad_alternate(m)
-}
-
-// The map that bits say, read up to a cursor.
-fn judge_map(bits: u32, c: Cursor) -> MapRead
-    ensures { (s : List ℕ) → Reads s c (judged bits) result.map result.next }
-{
-    let map = map_of(bits);
-    if bad_map(bits, map) {
-        let next = refused(c, 12);
-        return MapRead { map, next };
-    }
-    MapRead { map, next: c }
+    511 < bits
+        || map.tmap && !map.gain_map
+        || (map.alternate_cicp || map.alternate_icc) && !map.tmap
 }
 
 // The map: 16 bits.
-pub fn read_map(sheet: &[u8], c: Cursor) -> MapRead
-    ensures { Reads sheet.now c sheet_map result.map result.next }
+#[tactic(auto, unfolding(crate::specs::Map::sheet_map, crate::specs::Map::judged))]
+pub fn read_map(reader: &mut SheetReader) -> Result<Map, SheetRefusal>
+    ensures { Reads sheet_map (λ m. m) reader.old result reader.new }
 {
-    let n = read_number(sheet, c, 2);
-    let next = n.next;
-    judge_map(n.value, next)
+    let bits = reader.u16()?;
+    let map = map_of(bits);
+    if bad_map(bits, map) {
+        return Err(SheetRefusal::BadMap);
+    }
+    Ok(map)
 }

@@ -1,2 +1,1 @@
-pub mod Brands
 pub mod Payloads

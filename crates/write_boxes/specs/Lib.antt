@@ -1,1 +1,1 @@
-pub mod Idat
+pub mod Mdat

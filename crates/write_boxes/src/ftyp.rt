@@ -1,62 +1,50 @@
 // ftyp: the brands of a file.
-ghost use Rattle.std.specs.Prelude.{◌≡◌, cond, [], ◌∷◌, ◌+◌, ◌≤◌, length};
+ghost use Rattle.std.specs.Prelude.{◌≡◌, cond, [], ◌∷◌, ◌+◌};
 ghost use Rattle.octets.specs.Numbers.{◌‖◌, be, text};
-ghost use Rattle.octets.specs.Stores.{Wrote, Boxed};
+ghost use Rattle.octets.specs.Stores.{Room, Wrote, Boxed};
 ghost use Rattle.panel.specs.Parts.{given};
 ghost use Rattle.heif.specs.Ftyp.{ftyp, ftyp_size, brand};
 
-use octets::{put, w32, write_box};
+use octets::Output;
 use plan_items::brands::adds_heix;
 
 // The brand of a picture.
-fn write_brand(out: &mut [u8], at: usize, rext: bool) -> usize
-    requires { at + 4 ≤ length out.old }
-    ensures { Wrote out.old at 4 (brand rext) out.new result }
+fn write_brand(out: &mut Output, rext: bool)
+    requires { Room out.old 4 }
+    ensures { Wrote out.old 4 (brand rext) out.new }
 {
-    if rext {
-        put(out, at, b"heix")
-    } else {
-        put(out, at, b"heic")
-    }
-}
-
-// A further brand, where it is wanted.
-fn write_extra_brand(out: &mut [u8], at: usize, wanted: bool, brand: &[u8; 4]) -> usize
-    requires { at + cond wanted 4 0 ≤ length out.old }
-    ensures { Wrote out.old at (cond wanted 4 0) (given wanted brand.now) out.new result }
-{
-    if wanted {
-        return put(out, at, brand);
-    }
-    at
+    out.put(if rext { b"heix" } else { b"heic" });
 }
 
 // The brand, the version 0, the brand again, and the two that every file has.
-fn write_brands(out: &mut [u8], at: usize, color: bool) -> usize
-    requires { at + 20 ≤ length out.old }
-    ensures { Wrote out.old at 20 (brand color ‖ be 4 0 ‖ brand color ‖ text "mif1miaf") out.new result }
+fn write_brands(out: &mut Output, color: bool)
+    requires { Room out.old 20 }
+    ensures { Wrote out.old 20 (brand color ‖ be 4 0 ‖ brand color ‖ text "mif1" ‖ text "miaf") out.new }
 {
-    let a = write_brand(out, at, color);
-    let b = w32(out, a, 0);
-    let c = write_brand(out, b, color);
-    put(out, c, b"mif1miaf")
+    write_brand(out, color);
+    out.w32(0);
+    write_brand(out, color);
+    out.put(b"mif1miaf");
+}
+
+// A further brand, where it is wanted. A function of its own, since after two choices in a row a proof would have each way through them.
+fn write_extra_brand(out: &mut Output, wanted: bool, brand: &[u8; 4])
+    requires { Room out.old (cond wanted 4 0) }
+    ensures { Wrote out.old (cond wanted 4 0) (given wanted brand.now) out.new }
+{
+    if wanted {
+        out.put(brand);
+    }
 }
 
 // color and gain: the record is of the range extensions' profile.
-pub fn write_ftyp(
-    out: &mut [u8],
-    at: usize,
-    size: u32,
-    color: bool,
-    gain: bool,
-    tone: bool,
-) -> usize
-    requires tone_in_bounds { at + (8 + ftyp_size color gain tone) ≤ length out.old }
-    requires size_value { size ≡ 8 + ftyp_size color gain tone }
-    ensures { Boxed out.old at (8 + ftyp_size color gain tone) (ftyp color gain tone ∷ []) out.new result }
+pub fn write_ftyp(out: &mut Output, size: u32, color: bool, gain: bool, tone: bool)
+    requires room { Room out.old (8 + ftyp_size color gain tone) }
+    requires whole { size ≡ 8 + ftyp_size color gain tone }
+    ensures { Boxed out.old (8 + ftyp_size color gain tone) (ftyp color gain tone ∷ []) out.new }
 {
-    let a = write_box(out, at, size, b"ftyp");
-    let b = write_brands(out, a, color);
-    let c = write_extra_brand(out, b, adds_heix(color, gain), b"heix");
-    write_extra_brand(out, c, tone, b"tmap")
+    out.write_box(size, b"ftyp");
+    write_brands(out, color);
+    write_extra_brand(out, adds_heix(color, gain), b"heix");
+    write_extra_brand(out, tone, b"tmap");
 }

@@ -5,16 +5,14 @@ use mathlib.Core.List.{List, [], ◌∷◌, ◌++◌}
 use Prim.Native.Nat.{ℕ, zero, suc, ◌≤◌, ◌<◌}
 use native.Mathlib.Omega.{arith}
 use lib.Dec.{ltb}
-use lib.ListN.{length}
+use lib.ListN.{length, drop}
 use borrow.Author.Tests.{lt-ltb, le-ltb}
-use Rattle.octets.specs.Stores.{Wrote}
-use Rattle.octets.proofs.Stores.{front}
 use Rattle.panel.specs.Panel.{Panel}
 use Rattle.panel.specs.Form.{Form}
 use Rattle.panel.specs.Outcome.{Outcome, made, refused, number, says, outcome}
 use Rattle.panel.specs.declared.Refusal.{Refusal}
 use Rattle.panel.specs.declared.Refusal.TheVariants.{GridSide, TileCount, SampleLengths, ItemIds, FileLength, OutputLength}
-use Rattle.panel.specs.declared.Answer.TheVariants.{Length, Refused}
+use Rattle.std.specs.Prelude.{Ok, Err}
 use Rattle.heif.specs.File.{file}
 use Rattle.heif.specs.Refusal.{Check, check, first, checks, refusal, refusal_in}
 use Rattle.heif.specs.Answer.{length_answer, write_answer, left, after, Promised}
@@ -88,7 +86,7 @@ module _ (w : Form) (p : Panel) where
   unfolding length_answer
   by_number old k e = promise old (refused (suc k)) (answers old (still (length old) k (refused-suc (refusal w p) long k e))) refl
 
-  pub by-refusal : (old : List ℕ) (r : Refusal) → refused (number r) ≡ length_answer w p → Promised w p old (says (Refused r)) old
+  pub by-refusal : (old : List ℕ) (r : Refusal) → refused (number r) ≡ length_answer w p → Promised w p old (says (Err r)) old
   by-refusal old GridSide e = by_number old 0 e
   by-refusal old TileCount e = by_number old 1 e
   by-refusal old SampleLengths e = by_number old 2 e
@@ -98,8 +96,8 @@ module _ (w : Form) (p : Panel) where
 
   -- the plan is made
   module _ {f : FilePlan} (m : MadeFrom w p f) where
-    pub by-room : (old : List ℕ) → length old < f.length → Promised w p old (says (Refused OutputLength)) old
+    pub by-room : (old : List ℕ) → length old < f.length → Promised w p old (says (Err OutputLength)) old
     by-room old h = promise old (refused 6) (answers old (no_room (length old) m.accepted (omega (arith, m.long, h)))) refl
 
-    pub by_writing : {old new : List ℕ} {n r : ℕ} → f.length ≤ length old → Wrote old 0 n (file w p) new r → Promised w p old (says (Length f.length)) new
-    by_writing {old} h v = promise old (made f.length) (ap made m.long ∙ answers old (in_room (length old) m.accepted (omega (arith, m.long, h)))) (front v (omega (arith, m.long, h, v.size)))
+    pub by_writing : {old new : List ℕ} → f.length ≤ length old → new ≡ file w p ++ drop long old → Promised w p old (says (Ok f.length)) new
+    by_writing {old} h e = promise old (made f.length) (ap made m.long ∙ answers old (in_room (length old) m.accepted (omega (arith, m.long, h)))) e

@@ -1,63 +1,50 @@
--- Loops that print something of k bytes for each of n rising numbers: what a turn keeps, once for all of them.
-use mathlib.Core.Path.{◌≡◌, refl, ap, ◌∙◌}
-use mathlib.Core.List.{List, ◌∷◌, ◌++◌, flat_map}
+-- Loops that print something of k bytes for each number of a range: what each turn keeps, once for all of them.
+use mathlib.Core.Path.{◌≡◌, refl, sym, ap, ◌∙◌}
+use mathlib.Core.List.{List, [], ◌∷◌, ◌++◌, flat_map}
 use Prim.Native.Nat.{ℕ, zero, suc, ◌+◌, ◌*◌, ◌-◌, ◌<◌, ◌≤◌}
-use native.Mathlib.Nat.{mul-suc, mul-zero}
-use native.Mathlib.Numerals.{add-one}
+use native.Mathlib.Nat.{mul-suc, mul-zero, mul-le-mul_left}
 use native.Mathlib.Omega.{arith}
-use lib.ListN.{length}
-use Rattle.octets.specs.Stores.{Wrote}
-use Rattle.octets.proofs.Stores.{Owes, owes, turn, paid, kept}
+use Rattle.octets.specs.declared.Output.{Output}
+use Rattle.octets.specs.Stores.{Room, Wrote}
+use Rattle.octets.proofs.Lists.{flat_map-append, flat_map_one}
+use Rattle.octets.proofs.Stores.{◌▹◌, told, nothing}
 use Rattle.heif.specs.Items.{ids_from}
 
--- one of n
-mul-step : (k n : ℕ) → 0 < n → k * n ≡ k + k * (n - 1)
-mul-step k zero h = absurd (omega arith)
-mul-step k (suc n) h = let e : suc n - 1 ≡ n = omega arith in rw e (omega (arith, mul-suc k n))
+ids_snoc : (first n : ℕ) → ids_from first (suc n) ≡ ids_from first n ++ (first + n) ∷ []
+ids_snoc first zero = let e : first + 0 ≡ first = omega arith in rw e refl
+ids_snoc first (suc n) = let e : first + suc n ≡ suc first + n = omega arith in rw e (ap (λ (l : List ℕ). first ∷ l) (ids_snoc (suc first) n))
 
--- of n, those left behind i: all, one and the rest, none
-pub mul_all : (k n : ℕ) → k * (n - 0) ≡ k * n
-mul_all k n = let e : n - 0 ≡ n = omega arith in ap (λ (m : ℕ). k * m) e
+-- k more for each number more
+more : (k n : ℕ) → k * suc n ≡ k * n + k
+more k n = omega (arith, mul-suc k n)
 
-pub mul_left : (k : ℕ) {n i : ℕ} → i < n → k * (n - i) ≡ k + k * (n - (i + 1))
-mul_left k {n} {i} h = let e : n - i - 1 ≡ n - (i + 1) = omega arith in mul-step k (n - i) (omega arith) ∙ ap (λ (m : ℕ). k + k * m) e
+module _ (print : ℕ → List ℕ) (k : ℕ) (l : Output) (first : ℕ) where
+  -- the numbers from `first` on that are below id are printed
+  pub record Printed (id : ℕ) (m : Output) : Type 0 where
+    pub from : first ≤ id
+    pub wrote : Wrote l (k * (id - first)) (flat_map print (ids_from first (id - first))) m
 
-pub mul-none : (k : ℕ) {n i : ℕ} → i ≡ n → k * (n - i) ≡ 0
-mul-none k {n} {i} h = let e : n - i ≡ 0 = omega arith in ap (λ (m : ℕ). k * m) e ∙ mul-zero k
+module _ {print : ℕ → List ℕ} {k : ℕ} {l : Output} {first : ℕ} where
+  pub begun : Printed print k l first first l
+  unfolding flat_map
+  begun =
+      let e : first - first ≡ 0 = omega arith in
+      record { from = omega arith; wrote = rw (e, mul-zero k) nothing }
 
-ids_step : (id n : ℕ) → 0 < n → ids_from id n ≡ id ∷ ids_from (id + 1) (n - 1)
-ids_step id zero h = absurd (omega arith)
-ids_step id (suc n) h = let e : suc n - 1 ≡ n = omega arith in rw (e, add-one)
+  -- a turn has room
+  pub room : {id : ℕ} {m : Output} (n : ℕ) → Printed print k l first id m → id < first + n → Room l (k * n) → Room m k
+  room {id} n p h r =
+      let fewer : k * suc (id - first) ≤ k * n = mul-le-mul_left k (omega (arith, p.from)) in
+      omega (arith, p.wrote.end, p.wrote.kept, r, fewer, more k (id - first))
 
-print-step : (print : ℕ → List ℕ) (id n : ℕ) → 0 < n → flat_map print (ids_from id n) ≡ print id ++ flat_map print (ids_from (id + 1) (n - 1))
-unfolding flat_map
-print-step print id n h = ap (flat_map print) (ids_step id n h)
+  pub turned : {id : ℕ} {m o : Output} → Printed print k l first id m → Wrote m k (print id) o → Printed print k l first (id + 1) o
+  turned {id} p w =
+      let n : id + 1 - first ≡ suc (id - first) = omega (arith, p.from) in
+      let here : first + (id - first) ≡ id = omega (arith, p.from) in
+      let front = ids_from first (id - first) in
+      let bytes = ap (λ (x : List ℕ). flat_map print front ++ x) (sym (flat_map_one print id)) ∙ sym (flat_map-append print front (id ∷ [])) in
+      let ids = ap (λ (x : ℕ). front ++ x ∷ []) (sym here) ∙ sym (ids_snoc first (id - first)) in
+      record { from = omega (arith, p.from); wrote = rw n (told (p.wrote ▹ w) (bytes ∙ ap (flat_map print) ids) (sym (more k (id - first)))) }
 
--- of n numbers from `first` on, `left` are still to be printed, from id on
-pub record Turn (print : ℕ → List ℕ) (k : ℕ) (l : List ℕ) (at n first : ℕ) (out : List ℕ) (left a id : ℕ) : Type 0 where
-  pub len : length out ≡ length l
-  pub place : a + k * left ≡ at + k * n
-  pub next : id + left ≡ first + n
-  pub owed : Owes l at (k * n) (flat_map print (ids_from first n)) out a (k * left) (flat_map print (ids_from id left))
-
-pub begun : {print : ℕ → List ℕ} {k : ℕ} {l : List ℕ} {at n first : ℕ} → Turn print k l at n first l n at first
-begun = record { len = refl; place = refl; next = refl; owed = owes refl }
-
--- a turn has room
-pub room : {print : ℕ → List ℕ} {k : ℕ} {l out : List ℕ} {at n first left a id : ℕ} → Turn print k l at n first out left a id → 0 < left → at + k * n ≤ length l → a + k ≤ length out
-room {k = k} {left = left} t h r = omega (arith, t.place, t.len, mul-step k left h)
-
-pub turned : {print : ℕ → List ℕ} {k : ℕ} {l out new : List ℕ} {at n first left a id b : ℕ} → Turn print k l at n first out left a id → 0 < left
-    → Wrote out a k (print id) new b → Turn print k l at n first new (left - 1) b (id + 1)
-turned {print} {k} {left = left} {id = id} t h w =
-    record {
-      len = kept w ∙ t.len;
-      place = omega (arith, t.place, w.end, mul-step k left h);
-      next = omega (arith, t.next);
-      owed = turn t.owed w (print-step print id left h) (mul-step k left h);
-    }
-
-pub ended : {print : ℕ → List ℕ} {k : ℕ} {l out : List ℕ} {at n first left a id : ℕ} → Turn print k l at n first out left a id → left ≡ 0
-    → Wrote l at (k * n) (flat_map print (ids_from first n)) out a
-unfolding flat_map
-ended {print} {k} {left = left} {id = id} t e = paid t.owed (ap (λ (m : ℕ). flat_map print (ids_from id m)) e) (ap (λ (m : ℕ). k * m) e ∙ mul-zero k)
+  pub ended : {id : ℕ} {m : Output} (n : ℕ) → Printed print k l first id m → id ≡ first + n → Wrote l (k * n) (flat_map print (ids_from first n)) m
+  ended {id} n p e = let h : id - first ≡ n = omega (arith, e) in rw h at p.wrote

@@ -4,14 +4,14 @@
 
 pub mod form;
 
-ghost use Rattle.std.specs.Prelude.{◌≡◌, ◌+◌, ◌*◌, ◌%◌, ◌≤◌, ◌<◌, length};
+ghost use Rattle.std.specs.Prelude.{◌≡◌, ◌+◌, ◌*◌, ◌%◌, ◌≤◌, ◌<◌};
 ghost use mathlib.Core.List.{flat_map};
 ghost use Rattle.octets.specs.Numbers.{be};
-ghost use Rattle.octets.specs.Stores.{Wrote};
+ghost use Rattle.octets.specs.Stores.{Room, Wrote};
 ghost use Rattle.panel.specs.Form.{form_of};
 ghost use Rattle.heif.specs.Items.{ids_from};
 
-use octets::{w16, w32};
+use octets::Output;
 use panel::{FileForm, ItemId, WideItemId};
 
 // An id as the ordinary form has it, in 16 bits. Check 4 sees to it that none is cut.
@@ -22,37 +22,33 @@ pub fn ordinary_id(id: WideItemId) -> ItemId
 }
 
 // Writes an id of the ordinary form.
-pub fn write_ordinary_id(out: &mut [u8], at: usize, id: ItemId) -> usize
-    requires { at + 2 ≤ length out.old }
-    ensures { Wrote out.old at 2 (be 2 id.0) out.new result }
+pub fn write_ordinary_id(out: &mut Output, id: ItemId)
+    requires { Room out.old 2 }
+    ensures { Wrote out.old 2 (be 2 id.0) out.new }
 {
-    w16(out, at, id.0)
+    out.w16(id.0);
 }
 
-// Writes an id as the form has it.
-pub fn write_id(out: &mut [u8], at: usize, form: FileForm, id: WideItemId) -> usize
-    requires { at + (form_of form).id ≤ length out.old }
-    ensures { Wrote out.old at (form_of form).id (be (form_of form).id id.0) out.new result }
+// Writes an id as the form has it. Here and in the writers above, output and form are two parameters, and not one struct: half of the
+// writers have no form to ask, and a struct of both would be one more borrow at each call.
+pub fn write_id(out: &mut Output, form: FileForm, id: WideItemId)
+    requires { Room out.old (form_of form).id }
+    ensures { Wrote out.old (form_of form).id (be (form_of form).id id.0) out.new }
 {
     if form.is_wide() {
-        return w32(out, at, id.0);
+        out.w32(id.0);
+    } else {
+        write_ordinary_id(out, ordinary_id(id));
     }
-    write_ordinary_id(out, at, ordinary_id(id))
 }
 
-// Writes n ids from `first` on.
-pub fn write_ids(out: &mut [u8], at: usize, form: FileForm, first: WideItemId, n: u32) -> usize
-    requires n_in_bounds { at + (form_of form).id * n ≤ length out.old }
-    requires n_bound { first.0 + n < 4294967296 }
-    ensures { Wrote out.old at ((form_of form).id * n) (flat_map (be (form_of form).id) (ids_from first.0 n)) out.new result }
+// Writes n ids from `first` on. The two are handed as they are: a struct for them would be made at each call and taken apart at once.
+pub fn write_ids(out: &mut Output, form: FileForm, first: WideItemId, n: u32)
+    requires room { Room out.old ((form_of form).id * n) }
+    requires ids_fit { first.0 + n < 4294967296 }
+    ensures { Wrote out.old ((form_of form).id * n) (flat_map (be (form_of form).id) (ids_from first.0 n)) out.new }
 {
-    let mut left = n;
-    let mut a = at;
-    let mut id = first.0;
-    while 0 < left {
-        a = write_id(out, a, form, WideItemId(id));
-        id += 1;
-        left -= 1;
+    for id in first.0..first.0 + n {
+        write_id(out, form, WideItemId(id));
     }
-    a
 }

@@ -1,33 +1,64 @@
 // The gain map's entries in iinf.
-ghost use Rattle.std.specs.Prelude.{◌+◌, ◌≤◌, length};
-ghost use Rattle.octets.specs.Stores.{Boxed};
+ghost use Rattle.std.specs.Prelude.{cond, [], ◌∷◌, ◌+◌, ◌*◌};
+ghost use Rattle.octets.specs.Numbers.{◌‖◌, be, text};
+ghost use Rattle.octets.specs.Stores.{Room, Boxed};
 ghost use Rattle.panel.specs.Form.{form_of};
-ghost use Rattle.heif.specs.Iinf.{gain_infes, gain_infes_size};
-ghost use Rattle.plan_items.specs.Items.{Shaped};
+ghost use Rattle.panel.specs.Parts.{given};
+ghost use Rattle.heif.specs.Items.{gain_id, xmp_id, tone_id};
+ghost use Rattle.heif.specs.Iinf.{infe, gain_infes, infe_size, rdf_size, gain_infes_size};
 
-use crate::infe::write_given_infe;
-use panel::{FileForm, Shape};
-use plan_items::ids::{gain_id, tmap_id, xmp_id};
+use crate::infe::{Entry, write_infe};
+use octets::Output;
+use panel::FileForm;
+use plan_items::items::Items;
 
-// The gain map's entries in iinf: the gain image and its XMP are hidden, the tone map is not.
-pub(crate) fn write_iinf(out: &mut [u8], at: usize, form: FileForm, s: Shape) -> usize
-    requires s_in_bounds { at + gain_infes_size (form_of form) s ≤ length out.old }
-    requires shaped { Shaped s }
-    ensures { Boxed out.old at (gain_infes_size (form_of form) s) (gain_infes (form_of form) s) out.new result }
+// The entries of the gain image and of its XMP, both hidden.
+fn write_image_infes(out: &mut Output, form: FileForm, s: Items)
+    requires { Room out.old (cond s.gain (2 * infe_size (form_of form) + rdf_size) 0) }
+    ensures { Boxed out.old (cond s.gain (2 * infe_size (form_of form) + rdf_size) 0) (given s.gain (infe (form_of form) 1 (gain_id s) "hvc1" [] ∷ infe (form_of form) 1 (xmp_id s) "mime" (text "application/rdf+xml" ‖ be 1 0) ∷ [])) out.new }
 {
-    let image = gain_id(s);
-    let xmp = xmp_id(s);
-    let tone = tmap_id(s);
-    let a = write_given_infe(out, at, form, s.gain, image, b"hvc1", true, b"");
-    let b = write_given_infe(
-        out,
-        a,
-        form,
-        s.gain,
-        xmp,
-        b"mime",
-        true,
-        b"application/rdf+xml\0",
-    );
-    write_given_infe(out, b, form, s.tone, tone, b"tmap", false, b"")
+    if s.has_gain() {
+        let image = Entry {
+            id: s.gain_id(),
+            kind: b"hvc1",
+            hidden: true,
+            content_type: b"",
+        };
+        let xmp = Entry {
+            id: s.xmp_id(),
+            kind: b"mime",
+            hidden: true,
+            content_type: b"application/rdf+xml\0",
+        };
+        write_infe(out, form, &image);
+        write_infe(out, form, &xmp);
+    }
+}
+
+// The entry of the tone map, which is not hidden.
+fn write_tone_infe(out: &mut Output, form: FileForm, s: Items)
+    requires { Room out.old (cond s.tone (infe_size (form_of form)) 0) }
+    ensures { Boxed out.old (cond s.tone (infe_size (form_of form)) 0) (given s.tone (infe (form_of form) 0 (tone_id s) "tmap" [] ∷ [])) out.new }
+{
+    if s.has_tone() {
+        write_infe(
+            out,
+            form,
+            &Entry {
+                id: s.tmap_id(),
+                kind: b"tmap",
+                hidden: false,
+                content_type: b"",
+            },
+        );
+    }
+}
+
+// The gain map's entries.
+pub(crate) fn write_gain_infes(out: &mut Output, form: FileForm, s: Items)
+    requires { Room out.old (gain_infes_size (form_of form) s) }
+    ensures { Boxed out.old (gain_infes_size (form_of form) s) (gain_infes (form_of form) s) out.new }
+{
+    write_image_infes(out, form, s);
+    write_tone_infe(out, form, s);
 }

@@ -4,53 +4,54 @@
 
 pub mod gain_map;
 pub mod infe;
+pub mod picture;
 
-ghost use Rattle.std.specs.Prelude.{◌≡◌, [], ◌∷◌, ◌+◌, ◌*◌, ◌≤◌, length};
-ghost use Rattle.octets.specs.Stores.{Boxed};
+ghost use Rattle.std.specs.Prelude.{◌≡◌, cond, [], ◌∷◌, ◌+◌};
+ghost use Rattle.octets.specs.Stores.{Room, Boxed};
 ghost use Rattle.panel.specs.Form.{form_of};
-ghost use Rattle.heif.specs.Iinf.{colour_infes, alpha_infes, iinf, infe_size, iinf_size};
-ghost use Rattle.plan_items.specs.Items.{Shaped};
+ghost use Rattle.panel.specs.Parts.{given};
+ghost use Rattle.heif.specs.Items.{exif_id};
+ghost use Rattle.heif.specs.Iinf.{infe, iinf, infe_size, iinf_size};
 
-use crate::infe::{write_given_infe, write_infe, write_tile_infes};
-use panel::{FileForm, Shape, WideItemId};
-use plan_items::ids::{alpha_grid_id, alpha_tile_base, color_grid_id, exif_id, last_id};
+use crate::gain_map::write_gain_infes;
+use crate::infe::{Entry, write_infe};
+use crate::picture::write_picture_infes;
+use octets::Output;
+use panel::{FileForm, WideItemId};
+use plan_items::items::Items;
 use write_ids::form::{write_count, write_item_box};
 
-// The hidden entries of the colour tiles, and the colour grid's.
-fn write_color_infes(out: &mut [u8], at: usize, form: FileForm, s: Shape) -> usize
-    requires form_in_bounds { at + (infe_size (form_of form) * s.tiles + infe_size (form_of form)) ≤ length out.old }
-    requires shaped { Shaped s }
-    ensures { Boxed out.old at (infe_size (form_of form) * s.tiles + infe_size (form_of form)) (colour_infes (form_of form) s) out.new result }
+// The entry of the Exif, where it is present. The tone map's is another in three of its fields, so one function for both would be
+// `write_infe` again.
+fn write_exif_infe(out: &mut Output, form: FileForm, s: Items)
+    requires { Room out.old (cond s.exif (infe_size (form_of form)) 0) }
+    ensures { Boxed out.old (cond s.exif (infe_size (form_of form)) 0) (given s.exif (infe (form_of form) 0 (exif_id s) "Exif" [] ∷ [])) out.new }
 {
-    let grid = color_grid_id(s);
-    let a = write_tile_infes(out, at, form, WideItemId(1), s.tiles);
-    write_infe(out, a, form, grid, b"grid", false, b"")
-}
-
-// The hidden entries of the alpha tiles, and the alpha grid's.
-fn write_alpha_infes(out: &mut [u8], at: usize, form: FileForm, s: Shape) -> usize
-    requires form_in_bounds { at + (infe_size (form_of form) * s.tiles + infe_size (form_of form)) ≤ length out.old }
-    requires shaped { Shaped s }
-    ensures { Boxed out.old at (infe_size (form_of form) * s.tiles + infe_size (form_of form)) (alpha_infes (form_of form) s) out.new result }
-{
-    let first = alpha_tile_base(s);
-    let alpha_grid = alpha_grid_id(s);
-    let a = write_tile_infes(out, at, form, first, s.tiles);
-    write_infe(out, a, form, alpha_grid, b"grid", false, b"")
+    if s.has_exif() {
+        write_infe(
+            out,
+            form,
+            &Entry {
+                id: s.exif_id(),
+                kind: b"Exif",
+                hidden: false,
+                content_type: b"",
+            },
+        );
+    }
 }
 
 // iinf.
-pub fn write_iinf(out: &mut [u8], at: usize, form: FileForm, size: u32, s: Shape) -> usize
-    requires s_in_bounds { at + (8 + iinf_size (form_of form) s) ≤ length out.old }
-    requires shaped { Shaped s }
-    requires size_value { size ≡ 8 + iinf_size (form_of form) s }
-    ensures { Boxed out.old at (8 + iinf_size (form_of form) s) (iinf (form_of form) s ∷ []) out.new result }
+pub fn write_iinf(out: &mut Output, form: FileForm, size: u32, s: Items)
+    requires room { Room out.old (8 + iinf_size (form_of form) s) }
+    requires whole { size ≡ 8 + iinf_size (form_of form) s }
+    ensures { Boxed out.old (8 + iinf_size (form_of form) s) (iinf (form_of form) s ∷ []) out.new }
 {
-    let a = write_item_box(out, at, form, size, b"iinf", 0, 0);
-    let b = write_count(out, a, form, last_id(s));
-    let c = write_color_infes(out, b, form, s);
-    let d = write_alpha_infes(out, c, form, s);
-    let exif = exif_id(s);
-    let e = write_given_infe(out, d, form, s.exif, exif, b"Exif", false, b"");
-    crate::gain_map::write_iinf(out, e, form, s)
+    let n = s.tiles();
+    write_item_box(out, form, size, b"iinf", 0, 0);
+    write_count(out, form, s.last_id());
+    write_picture_infes(out, form, WideItemId(1), n, s.color_grid_id());
+    write_picture_infes(out, form, s.alpha_tile_base(), n, s.alpha_grid_id());
+    write_exif_infe(out, form, s);
+    write_gain_infes(out, form, s);
 }

@@ -1,28 +1,22 @@
--- Extents by their sizes: those of samples that lie back to back, and one more of them in a loop.
+-- Extents by their sizes, and runs of entries, one behind the other.
 use mathlib.Core.Path.{◌≡◌, refl, sym, ap, ◌∙◌}
 use mathlib.Core.List.{List, [], ◌∷◌, ◌++◌, map, flat_map}
 use Prim.Native.Nat.{ℕ, suc, ◌+◌, ◌<◌}
 use native.Mathlib.Nat.{add-zero}
 use native.Mathlib.Numerals.{add-one}
 use native.Mathlib.Omega.{arith}
-use lib.ListN.{length, drop, get_or}
+use lib.ListN.{length, length-take, take, get_or}
+use lib.Seq.{take-suc}
 use Rattle.octets.specs.Numbers.{total}
-use Rattle.octets.proofs.Lists.{drop-step, flat_map-append}
+use Rattle.octets.proofs.Lists.{flat_map-append, flat_map_one}
 use Rattle.panel.specs.Form.{Form}
 use Rattle.heif.specs.Iloc.{Extent, Location, extents, located, entry}
-use Rattle.write_iloc.specs.Spans.{spans, location}
+use Rattle.write_iloc.specs.Spans.{spans, location, entries}
 
 pub extents-spans : (at : ℕ) (l : List (List ℕ)) → extents at l ≡ spans at (map length l)
 unfolding spans
 extents-spans at [] = refl
 extents-spans at (x ∷ l) = ap (λ (r : List Extent). record { offset = at; size = length x } ∷ r) (extents-spans (at + length x) l)
-
-pub entries_step : (f : Form) (l : List ℕ) (i id at : ℕ) → i < length l
-    → flat_map (entry f) (located id 0 (spans at (drop i l))) ≡ entry f (location id 0 at (get_or l i 0)) ++ flat_map (entry f) (located (id + 1) 0 (spans (at + get_or l i 0) (drop (i + 1) l)))
-unfolding spans flat_map
-entries_step f l i id at h =
-    ap (λ (z : List ℕ). flat_map (entry f) (located id 0 (spans at z))) (drop-step l i h)
-    ∙ ap (λ (k : ℕ). entry f (location id 0 at (get_or l i 0)) ++ flat_map (entry f) (located k 0 (spans (at + get_or l i 0) (drop (i + 1) l)))) (sym (add-one id))
 
 -- ---- runs of extents, one behind the other
 
@@ -45,9 +39,31 @@ located-append id method (e ∷ x) y =
     ap (λ (r : List Location). record { id = id; method = method; extent = e } ∷ r) (located-append (suc id) method x y ∙ ap (λ (k : ℕ). located (suc id) method x ++ located k method y) h)
 
 pub entries_append : (f : Form) (id at : ℕ) (x y : List ℕ) {j b : ℕ} → j ≡ id + length x → b ≡ at + total x
-    → flat_map (entry f) (located id 0 (spans at x)) ++ flat_map (entry f) (located j 0 (spans b y)) ≡ flat_map (entry f) (located id 0 (spans at (x ++ y)))
+    → entries f id at x ++ entries f j b y ≡ entries f id at (x ++ y)
 entries_append f id at x y {j} {b} hj hb =
     let k : j ≡ id + length (spans at x) = hj ∙ ap (λ (n : ℕ). id + n) (sym (length-spans at x)) in
-    (λ i. flat_map (entry f) (located id 0 (spans at x)) ++ flat_map (entry f) (located (k i) 0 (spans (hb i) y)))
+    (λ i. entries f id at x ++ entries f (k i) (hb i) y)
     ∙ sym (flat_map-append (entry f) (located id 0 (spans at x)) (located (id + length (spans at x)) 0 (spans (at + total x) y)))
     ∙ ap (flat_map (entry f)) (sym (located-append id 0 (spans at x) (spans (at + total x) y)) ∙ ap (located id 0) (sym (spans-append at x y)))
+
+-- one entry
+pub entries_one : (f : Form) (id at n : ℕ) → entry f (location id 0 at n) ≡ entries f id at (n ∷ [])
+unfolding spans
+entries_one f id at n = sym (flat_map_one (entry f) (location id 0 at n))
+
+-- none
+pub entries_none : (f : Form) (id at : ℕ) → [] ≡ entries f id at []
+unfolding spans flat_map
+entries_none f id at = refl
+
+-- one more of a list
+pub entries_step : (f : Form) (id at : ℕ) (l : List ℕ) (i : ℕ) → i < length l
+    → entries f id at (take i l) ++ entry f (location (id + i) 0 (at + total (take i l)) (get_or l i 0))
+    ≡ entries f id at (take (i + 1) l)
+entries_step f id at l i h =
+    let n = get_or l i 0 in
+    let front = entries f id at (take i l) in
+    let here : id + i ≡ id + length (take i l) = simp length-take (omega arith) in
+    ap (λ (r : List ℕ). front ++ r) (entries_one f (id + i) (at + total (take i l)) n)
+    ∙ entries_append f id at (take i l) (n ∷ []) here refl
+    ∙ ap (entries f id at) (rw (add-one, take-suc l i 0) refl)

@@ -1,85 +1,62 @@
 // The gain map's entries in iloc.
-ghost use Rattle.std.specs.Prelude.{cond, ◌+◌, ◌*◌, ◌≤◌, ◌<◌, length};
-ghost use mathlib.Core.List.{[], ◌∷◌, flat_map};
-ghost use Rattle.octets.specs.Stores.{Wrote};
-ghost use Rattle.panel.specs.Parts.{given};
+ghost use Rattle.std.specs.Prelude.{cond, [], ◌∷◌, ◌+◌, ◌*◌, ◌<◌};
+ghost use Rattle.octets.specs.Stores.{Room, Wrote};
 ghost use Rattle.panel.specs.Form.{form_of};
-ghost use Rattle.heif.specs.Items.{gain_id, tone_id};
-ghost use Rattle.heif.specs.Iloc.{entry, located, entry_size, gain_entries_size};
-ghost use Rattle.plan_items.specs.Items.{Shaped};
-ghost use Rattle.write_iloc.specs.Spans.{spans};
+ghost use Rattle.panel.specs.Parts.{given};
+ghost use Rattle.heif.specs.Items.{gain_id};
+ghost use Rattle.heif.specs.Iloc.{entry_size, gain_entries_size};
+ghost use Rattle.write_iloc.specs.Spans.{entries};
 ghost use Rattle.write_iloc.specs.Locations.{sizes};
 
-use crate::location::write_location;
-use panel::{FileForm, Shape};
-use plan_items::ids::{gain_id, tmap_id, xmp_id};
+use crate::location::{write_file_locations, write_given_location};
+use octets::Output;
+use panel::FileForm;
+use plan_items::items::Items;
 use plan_items::payloads::PayloadLengths;
 
-// The tone map's entry.
-fn write_tone_location(
-    out: &mut [u8],
-    at: usize,
-    form: FileForm,
-    s: Shape,
-    offset: u32,
-    size: u32,
-) -> usize
-    requires form_in_bounds { at + cond s.tone (entry_size (form_of form)) 0 ≤ length out.old }
-    requires shaped { Shaped s }
-    ensures { Wrote out.old at (cond s.tone (entry_size (form_of form)) 0) (flat_map (entry (form_of form)) (located (tone_id s) 0 (spans offset (given s.tone (size ∷ []))))) out.new result }
-{
-    if s.tone {
-        let tone = tmap_id(s);
-        return write_location(out, at, form, tone, 0, offset, size);
-    }
-    at
-}
-
-// The entries of the gain image and of its XMP.
+// The entries of the gain image and of its XMP, where there is a gain map.
 fn write_image_locations(
-    out: &mut [u8],
-    at: usize,
+    out: &mut Output,
     form: FileForm,
-    s: Shape,
+    s: Items,
     offset: u32,
-    sample: u32,
-    xmp: u32,
-) -> usize
-    requires form_in_bounds { at + 2 * entry_size (form_of form) ≤ length out.old }
-    requires shaped { Shaped s }
-    requires sample_bound { offset + sample < 4294967296 }
-    ensures { Wrote out.old at (2 * entry_size (form_of form)) (flat_map (entry (form_of form)) (located (gain_id s) 0 (spans offset (sample ∷ xmp ∷ [])))) out.new result }
+    lengths: PayloadLengths,
+)
+    requires room { Room out.old (cond s.gain (2 * entry_size (form_of form)) 0) }
+    requires end_fits { offset + (lengths.sample + lengths.xmp) < 4294967296 }
+    ensures { Wrote out.old (cond s.gain (2 * entry_size (form_of form)) 0) (entries (form_of form) (gain_id s) offset (given s.gain (lengths.sample ∷ lengths.xmp ∷ []))) out.new }
 {
-    let image = gain_id(s);
-    let second = xmp_id(s);
-    let a = write_location(out, at, form, image, 0, offset, sample);
-    write_location(out, a, form, second, 0, offset + sample, xmp)
+    if s.has_gain() {
+        write_file_locations(
+            out,
+            form,
+            s.gain_id(),
+            offset,
+            &[lengths.sample, lengths.xmp],
+        );
+    }
 }
 
 // The gain map's entries, whose payloads lie back to back from `offset` on.
-pub(crate) fn write_iloc(
-    out: &mut [u8],
-    at: usize,
+pub(crate) fn write_gain_locations(
+    out: &mut Output,
     form: FileForm,
-    s: Shape,
+    s: Items,
     offset: u32,
     lengths: PayloadLengths,
-) -> usize
-    requires s_in_bounds { at + gain_entries_size (form_of form) s ≤ length out.old }
-    requires shaped { Shaped s }
-    requires xmp_bound { offset + (lengths.sample + lengths.xmp) < 4294967296 }
-    ensures { Wrote out.old at (gain_entries_size (form_of form) s) (flat_map (entry (form_of form)) (located (gain_id s) 0 (spans offset (sizes s lengths)))) out.new result }
+)
+    requires room { Room out.old (gain_entries_size (form_of form) s) }
+    requires end_fits { offset + (lengths.sample + lengths.xmp) < 4294967296 }
+    ensures { Wrote out.old (gain_entries_size (form_of form) s) (entries (form_of form) (gain_id s) offset (sizes s lengths)) out.new }
 {
-    if s.gain {
-        let a = write_image_locations(out, at, form, s, offset, lengths.sample, lengths.xmp);
-        return write_tone_location(
-            out,
-            a,
-            form,
-            s,
-            offset + lengths.sample + lengths.xmp,
-            lengths.tmap,
-        );
-    }
-    at
+    s.shaped();
+    write_image_locations(out, form, s, offset, lengths);
+    let tone = s.has_tone().then_some(lengths.tmap);
+    write_given_location(
+        out,
+        form,
+        s.tmap_id(),
+        offset + lengths.sample + lengths.xmp,
+        tone,
+    );
 }

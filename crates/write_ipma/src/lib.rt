@@ -1,93 +1,71 @@
 // ipma: which properties each item has.
 
-#![tactic(auto)]
+#![tactic(auto, using(crate::proofs::Entries::lengths))]
 
 pub mod association;
-pub mod gain_map;
 
 ghost use Rattle.std.specs.Prelude.{◌≡◌, ◌+◌, ◌≤◌, length};
 ghost use mathlib.Core.List.{[], ◌∷◌, flat_map};
-ghost use Rattle.octets.specs.Stores.{Wrote, Boxed};
+ghost use Rattle.octets.specs.Stores.{Room, Wrote, Boxed};
 ghost use Rattle.panel.specs.Form.{form_of};
-ghost use Rattle.heif.specs.Ipma.{colour_associations, alpha_associations, associations, association, ipma, associated_items};
-ghost use Rattle.plan_items.specs.Items.{Shaped};
-ghost use Rattle.plan_runs.specs.Roles.{its_of, NarrowPlaces};
+ghost use Rattle.heif.specs.Ipma.{colour_associations, alpha_associations, gain_associations, associations, association, ipma, associated_items};
+ghost use Rattle.plan_runs.specs.Roles.{its_of};
 
-use crate::association::{
-    write_alpha_tile_associations, write_association_head, write_color_tile_associations,
-};
-use octets::w32;
-use panel::part::when;
-use panel::{FileForm, Shape, WideItemId};
-use plan_items::ids::{alpha_grid_id, alpha_tile_base, color_grid_id};
+use crate::association::{write_association, write_association_if, write_associations};
+use octets::Output;
+use panel::when::when;
+use panel::{FileForm, WideItemId};
+use plan_items::items::Items;
 use plan_runs::Places;
-use plan_runs::counts::{alpha_grid_count, color_grid_count};
+use plan_runs::lists::{
+    alpha_grid_list, alpha_tile_list, color_grid_list, color_tile_list, image_list, tone_list,
+};
 use write_ids::form::write_item_box;
-use write_ipma_lists::grid::{write_alpha_grid_list, write_color_grid_list};
 
-// The entries of the colour picture: its tiles with hvcC, ispe and colr, all essential, and its grid.
-fn write_color_associations(out: &mut [u8], at: usize, form: FileForm, s: Shape, y: Places) -> usize
-    requires y_in_bounds { at + length (flat_map (association (form_of form)) (colour_associations s (its_of y))) ≤ length out.old }
-    requires shaped { Shaped s }
-    requires narrow_places { NarrowPlaces y }
-    ensures { Wrote out.old at (length (flat_map (association (form_of form)) (colour_associations s (its_of y)))) (flat_map (association (form_of form)) (colour_associations s (its_of y))) out.new result }
+// The entries of the colour picture: its tiles' and its grid's.
+fn write_color_associations(out: &mut Output, form: FileForm, s: Items, y: &Places)
+    requires { Room out.old (length (flat_map (association (form_of form)) (colour_associations s (its_of y.now)))) }
+    ensures { let bytes = flat_map (association (form_of form)) (colour_associations s (its_of y.now)) in Wrote out.old (length bytes) bytes out.new }
 {
-    let c = y.color;
-    let hvcc = c.hvcc;
-    let tile = c.ispe_tile;
-    let colr = c.colr;
-    let grid = color_grid_id(s);
-    let count = color_grid_count(y);
-    let a = write_color_tile_associations(out, at, form, WideItemId(1), s.tiles, hvcc, tile, colr);
-    let b = write_association_head(out, a, form, grid, count);
-    write_color_grid_list(out, b, y)
+    write_associations(out, form, WideItemId(1), s.tiles(), &color_tile_list(y));
+    write_association(out, form, s.color_grid_id(), &color_grid_list(y));
 }
 
-// The entries of the alpha picture: its tiles with hvcC and ispe, both essential, and its grid.
-fn write_alpha_associations(out: &mut [u8], at: usize, form: FileForm, s: Shape, y: Places) -> usize
-    requires y_in_bounds { at + length (flat_map (association (form_of form)) (alpha_associations s (its_of y))) ≤ length out.old }
-    requires shaped { Shaped s }
-    requires narrow_places { NarrowPlaces y }
-    ensures { Wrote out.old at (length (flat_map (association (form_of form)) (alpha_associations s (its_of y)))) (flat_map (association (form_of form)) (alpha_associations s (its_of y))) out.new result }
+// The entries of the alpha picture: its tiles' and its grid's.
+fn write_alpha_associations(out: &mut Output, form: FileForm, s: Items, y: &Places)
+    requires { Room out.old (length (flat_map (association (form_of form)) (alpha_associations s (its_of y.now)))) }
+    ensures { let bytes = flat_map (association (form_of form)) (alpha_associations s (its_of y.now)) in Wrote out.old (length bytes) bytes out.new }
 {
-    let c = y.color;
-    let a = y.alpha;
-    let hvcc = a.hvcc;
-    let tile = c.ispe_tile;
-    let first = alpha_tile_base(s);
-    let grid = alpha_grid_id(s);
-    let count = alpha_grid_count(y);
-    let b = write_alpha_tile_associations(out, at, form, first, s.tiles, hvcc, tile);
-    let d = write_association_head(out, b, form, grid, count);
-    write_alpha_grid_list(out, d, y)
+    let first = s.alpha_tile_base();
+    write_associations(out, form, first, s.tiles(), &alpha_tile_list(y));
+    write_association(out, form, s.alpha_grid_id(), &alpha_grid_list(y));
+}
+
+// The entries of the gain map: the gain image's and the tone map's, where there are any.
+fn write_gain_associations(out: &mut Output, form: FileForm, s: Items, y: &Places)
+    requires { Room out.old (length (flat_map (association (form_of form)) (gain_associations s (its_of y.now)))) }
+    ensures { let bytes = flat_map (association (form_of form)) (gain_associations s (its_of y.now)) in Wrote out.old (length bytes) bytes out.new }
+{
+    write_association_if(out, form, s.has_gain(), s.gain_id(), &image_list(y));
+    write_association_if(out, form, s.has_tone(), s.tmap_id(), &tone_list(y));
 }
 
 // How many items ipma names: the tiles, the grids, the gain image and the tone map.
-fn associated_items(s: Shape) -> u32
-    requires { Shaped s }
+fn associated_items(s: Items) -> u32
     ensures { result ≡ associated_items s }
 {
-    2 * s.tiles + 2 + when(s.gain, 1) + when(s.tone, 1)
+    2 * s.tiles() + 2 + when(s.has_gain(), 1) + when(s.has_tone(), 1)
 }
 
 // ipma.
-pub fn write_ipma(
-    out: &mut [u8],
-    at: usize,
-    form: FileForm,
-    size: u32,
-    s: Shape,
-    y: Places,
-) -> usize
-    requires y_in_bounds { at + (8 + length (ipma (form_of form) (associations s (its_of y))).body) ≤ length out.old }
-    requires shaped { Shaped s }
-    requires narrow_places { NarrowPlaces y }
-    requires size_value { size ≡ 8 + length (ipma (form_of form) (associations s (its_of y))).body }
-    ensures { Boxed out.old at (8 + length (ipma (form_of form) (associations s (its_of y))).body) (ipma (form_of form) (associations s (its_of y)) ∷ []) out.new result }
+pub fn write_ipma(out: &mut Output, form: FileForm, size: u32, s: Items, y: &Places)
+    requires room { Room out.old (8 + length (ipma (form_of form) (associations s (its_of y.now))).body) }
+    requires size_value { size ≡ 8 + length (ipma (form_of form) (associations s (its_of y.now))).body }
+    ensures { let box = ipma (form_of form) (associations s (its_of y.now)) in Boxed out.old (8 + length box.body) (box ∷ []) out.new }
 {
-    let a = write_item_box(out, at, form, size, b"ipma", 0, 0);
-    let b = w32(out, a, associated_items(s));
-    let c = write_color_associations(out, b, form, s, y);
-    let d = write_alpha_associations(out, c, form, s, y);
-    crate::gain_map::write_ipma(out, d, form, s, y)
+    write_item_box(out, form, size, b"ipma", 0, 0);
+    out.w32(associated_items(s));
+    write_color_associations(out, form, s, y);
+    write_alpha_associations(out, form, s, y);
+    write_gain_associations(out, form, s, y);
 }

@@ -1,99 +1,83 @@
 // The gain map's properties in ipco.
-ghost use Rattle.std.specs.Prelude.{[], ◌∷◌, ◌+◌, ◌≤◌, ◌<◌, length};
+ghost use Rattle.std.specs.Prelude.{◌≡◌, max};
 ghost use Rattle.octets.specs.Stores.{Boxed};
-ghost use Rattle.panel.specs.Of.{part, alternate_of};
-ghost use Rattle.heif.specs.Colr.{alternates, alternates_size};
-ghost use Rattle.heif.specs.Ispe.{ispe, ispe_size};
-ghost use Rattle.heif.specs.Pixi.{pixi, pixi_size};
+ghost use Rattle.write_properties.specs.Room.{BoxRoom};
+ghost use Rattle.panel.specs.Types.{bits};
+ghost use Rattle.panel.specs.Of.{gain_of, panel_of};
+ghost use Rattle.heif.specs.Ispe.{ispe, tone_ispe};
+ghost use Rattle.heif.specs.Pixi.{pixi};
 ghost use Rattle.heif.specs.Ipco.{image_slots, tone_slots, gain_slots, held, image_properties_size, tone_properties_size, gain_properties_size};
-ghost use Rattle.heif.specs.Lent.{with_properties};
 
 use crate::auxc::write_auxc;
 use crate::colr::{write_alternate_colr, write_colr_nclx};
 use crate::hvcc::write_hvcc;
 use crate::ispe::write_ispe;
-use crate::pixi::{write_pixi_color, write_pixi_mono};
-use panel::color::MaybeColorMetadata;
-use panel::gain_map::{EncodedGainMap, MaybeGainMap};
-use panel::part::Part;
+use crate::pixi::write_pixi;
+use octets::Output;
+use panel::Panel;
+use panel::gain_map::EncodedGainMap;
 
-// hvcC, ispe, pixi, auxC and colr of the gain image.
-fn write_image_properties(out: &mut [u8], at: usize, g: EncodedGainMap, hvcc: &[u8]) -> usize
-    requires hvcc_in_bounds { at + image_properties_size hvcc.now ≤ length out.old }
-    requires hvcc_bound { image_properties_size hvcc.now < 4294967296 }
-    ensures { Boxed out.old at (image_properties_size hvcc.now) (held (image_slots hvcc.now g.width g.height g.bit_depth g.cicp)) out.new result }
-{
-    let depth = g.bit_depth;
-    let cicp = g.cicp;
-    let a = write_hvcc(out, at, hvcc);
-    let b = write_ispe(out, a, g.width, g.height);
-    let c = write_pixi_mono(out, b, depth.bits());
-    let d = write_auxc(out, c, b"urn:com:apple:photo:2020:aux:hdrgainmap");
-    write_colr_nclx(out, d, cicp)
-}
-
-// ispe, pixi and the alternate colour of a tone map.
-fn write_tone_boxes(
-    out: &mut [u8],
-    at: usize,
+// The picture that a tone map gives: its sides, and the bits of each channel.
+#[derive(Clone, Copy)]
+struct TonePicture {
     w: u32,
     h: u32,
-    depth: u8,
-    alternate: MaybeColorMetadata,
-    icc: &[u8],
-) -> usize
-    requires icc_in_bounds { at + (ispe_size + pixi_size 3 + alternates_size (alternate_of alternate icc.now)) ≤ length out.old }
-    requires icc_bound { ispe_size + pixi_size 3 + alternates_size (alternate_of alternate icc.now) < 4294967296 }
-    ensures { Boxed out.old at (ispe_size + pixi_size 3 + alternates_size (alternate_of alternate icc.now)) (ispe w h ∷ pixi 3 depth ∷ alternates (alternate_of alternate icc.now)) out.new result }
-{
-    let a = write_ispe(out, at, w, h);
-    let b = write_pixi_color(out, a, depth);
-    write_alternate_colr(out, b, alternate, icc)
+    bits: u8,
 }
 
-// The tone map's properties, where there is one; its bytes do not matter here.
-fn write_tone_properties(
-    out: &mut [u8],
-    at: usize,
-    present: Part,
-    w: u32,
-    h: u32,
-    depth: u8,
-    alternate: MaybeColorMetadata,
-    icc: &[u8],
-) -> usize
-    requires icc_in_bounds { at + tone_properties_size (part present []) (alternate_of alternate icc.now) ≤ length out.old }
-    requires icc_bound { tone_properties_size (part present []) (alternate_of alternate icc.now) < 4294967296 }
-    ensures { Boxed out.old at (tone_properties_size (part present []) (alternate_of alternate icc.now)) (held (tone_slots (ispe w h) (pixi 3 depth) (part present []) (alternate_of alternate icc.now))) out.new result }
-{
-    match present {
-        Part::Present => write_tone_boxes(out, at, w, h, depth, alternate, icc),
-        Part::Absent => at,
+impl TonePicture {
+    // As large as the turned grid, and of at least 10 bits.
+    fn of(panel: &Panel) -> TonePicture
+        ensures size { ispe result.w result.h ≡ tone_ispe panel.now.dims panel.now.metadata.orientation }
+        ensures bits { result.bits ≡ max (bits panel.now.bit_depth) 10 }
+    {
+        let dims = panel.dims;
+        let is_turned = panel.metadata.orientation.irot_steps() % 2 == 1;
+        let (w, h) = if is_turned {
+            (dims.full_h, dims.full_w)
+        } else {
+            (dims.full_w, dims.full_h)
+        };
+        TonePicture {
+            w,
+            h,
+            bits: panel.bit_depth.bits().max(10),
+        }
     }
 }
 
-// The properties of a gain map, where there is one; w, h and depth are the tone map's.
-pub(crate) fn write_ipco(
-    out: &mut [u8],
-    at: usize,
-    gain: MaybeGainMap,
-    w: u32,
-    h: u32,
-    depth: u8,
-    hvcc: &[u8],
-    icc: &[u8],
-) -> usize
-    requires icc_in_bounds { at + gain_properties_size (with_properties gain hvcc.now icc.now) ≤ length out.old }
-    requires icc_bound { gain_properties_size (with_properties gain hvcc.now icc.now) < 4294967296 }
-    ensures { Boxed out.old at (gain_properties_size (with_properties gain hvcc.now icc.now)) (held (gain_slots (ispe w h) (pixi 3 depth) (with_properties gain hvcc.now icc.now))) out.new result }
+// hvcC, ispe, pixi, auxC and colr of the gain image.
+fn write_image_properties(out: &mut Output, g: &EncodedGainMap)
+    requires { let m = gain_of g.now in BoxRoom out.old (image_properties_size m.hvcc) }
+    ensures { let m = gain_of g.now in Boxed out.old (image_properties_size m.hvcc) (held (image_slots m.hvcc m.width m.height m.depth m.cicp)) out.new }
 {
-    match gain {
-        MaybeGainMap::Some(g) => {
-            let present = g.tmap;
-            let alternate = g.alternate_color;
-            let a = write_image_properties(out, at, g, hvcc);
-            write_tone_properties(out, a, present, w, h, depth, alternate, icc)
-        }
-        MaybeGainMap::None => at,
+    write_hvcc(out, g.hvcc);
+    write_ispe(out, g.width, g.height);
+    write_pixi::<1>(out, g.bit_depth.bits());
+    write_auxc(out, b"urn:com:apple:photo:2020:aux:hdrgainmap");
+    write_colr_nclx(out, g.cicp);
+}
+
+// ispe, pixi and the alternate colour of the tone map, where there is one.
+fn write_tone_properties(out: &mut Output, g: &EncodedGainMap, picture: TonePicture)
+    requires { let m = gain_of g.now in BoxRoom out.old (tone_properties_size m.tone m.alternate) }
+    ensures { let m = gain_of g.now in Boxed out.old (tone_properties_size m.tone m.alternate) (held (tone_slots (ispe picture.w picture.h) (pixi 3 picture.bits) m.tone m.alternate)) out.new }
+{
+    if g.tmap.is_some() {
+        write_ispe(out, picture.w, picture.h);
+        write_pixi::<3>(out, picture.bits);
+        write_alternate_colr(out, &g.alternate_color);
+    }
+}
+
+// The properties of the gain map, where there is one, and of its tone map.
+#[tactic(auto, unfolding(panel::specs::Of::panel_of))]
+pub(crate) fn write_ipco(out: &mut Output, panel: &Panel)
+    requires { let p = panel_of panel.now in BoxRoom out.old (gain_properties_size p.gain) }
+    ensures { let p = panel_of panel.now in Boxed out.old (gain_properties_size p.gain) (held (gain_slots (tone_ispe p.dims p.metadata.orientation) (pixi 3 (max (bits p.depth) 10)) p.gain)) out.new }
+{
+    if let Some(g) = &panel.gain_map {
+        write_image_properties(out, g);
+        write_tone_properties(out, g, TonePicture::of(panel));
     }
 }

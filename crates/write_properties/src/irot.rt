@@ -1,19 +1,17 @@
 // The property irot.
-ghost use Rattle.std.specs.Prelude.{◌+◌, ◌≤◌, length};
 ghost use Rattle.octets.specs.Boxes.{optional};
-ghost use Rattle.octets.specs.Stores.{Boxed};
+ghost use Rattle.octets.specs.Stores.{Room, Boxed};
 ghost use Rattle.heif.specs.Irot.{irot_payload, irot_size};
 
-use octets::{w8, write_box};
+use octets::Output;
 
 // irot, where there is a turn.
-pub(crate) fn write_irot(out: &mut [u8], at: usize, steps: u8) -> usize
-    requires { at + irot_size steps ≤ length out.old }
-    ensures { Boxed out.old at (irot_size steps) (optional "irot" (irot_payload steps)) out.new result }
+pub(crate) fn write_irot(out: &mut Output, steps: u8)
+    requires { Room out.old (irot_size steps) }
+    ensures { Boxed out.old (irot_size steps) (optional "irot" (irot_payload steps)) out.new }
 {
-    if steps == 0 {
-        return at;
+    if steps > 0 {
+        out.write_box(9, b"irot");
+        out.w8(steps);
     }
-    let a = write_box(out, at, 9, b"irot");
-    w8(out, a, steps)
 }

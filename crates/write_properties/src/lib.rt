@@ -1,6 +1,6 @@
 // One writer for each property, by value; and ipco, which holds them.
 //
-// Each writes at a position of a lent buffer and answers the position behind what it wrote.
+// Each writes into an output, behind what is written there already.
 
 #![tactic(auto)]
 

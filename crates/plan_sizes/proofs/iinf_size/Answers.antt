@@ -7,5 +7,5 @@ use Rattle.plan_sizes.proofs.iinf_size.Goals as goal
 
 pub returns : goal.returns
 returns c =
-    let k = (form_of c.args.form).id in
-    omega (arith, c.when.ensures.value, c.ids_bytes.ensures.value, c.count_bytes.ensures.value, c.last_id-n.ensures.value, ap (λ (n : ℕ). k * n) c.last_id-n.ensures.value)
+    let ids = ap (λ (n : ℕ). (form_of c.args.form).id * n) c.last_id-n.ensures.value in
+    grind (arith, ids)

@@ -1,8 +1,7 @@
--- The sum before the tile, and its own length.
-use mathlib.Core.Path.{ap}
-use Prim.Native.Nat.{ℕ}
-use lib.ListN.{get_or}
+-- The sum of some lengths is at most that of all.
+use native.Mathlib.Omega.{arith}
+use Rattle.octets.proofs.Lists.{total-take}
 use Rattle.plan_tile.proofs.span_of.Goals as goal
 
-pub returns : goal.returns
-returns c = ap (λ (n : ℕ). record { refusal = 0; alpha = c.args.alpha; start = n; size = get_or c.args.lengths.now c.args.k 0 }) c.sum_before.ensures
+pub overflow_cast-start : goal.overflow_cast-start
+overflow_cast-start c = record { fits = omega (arith, total-take c.args.samples.lengths.now c.args.k) }

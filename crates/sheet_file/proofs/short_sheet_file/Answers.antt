@@ -1,31 +1,17 @@
 -- A refusal as the sheet is read, or what the panel is answered.
-use mathlib.Core.Path.{sym}
-use lib.Seq.{length-take-le}
-use Rattle.sheet.specs.Said.{panel_said}
-use Rattle.sheet_file.proofs.Promises.{by-stop, by-file}
+use Rattle.std.proofs.Common.{rules}
+use Rattle.sheet_file.proofs.Promises.{by_refusal, by_panel}
 use Rattle.sheet_file.proofs.short_sheet_file.Goals as goal
 
-pub returns-then-next-ne0 : goal.returns-then-next-ne0
-returns-then-next-ne0 c =
-    by-stop _ c.requires c.read_sheet-r.ensures.reads c.if-next-ne0.true
+pub returns-in_err-panel-clause-promised : goal.returns-in_err-panel-clause-promised
+returns-in_err-panel-clause-promised c =
+    let refused = by_refusal c.args.sheet.now c.requires {old = c.args.out.now} c.in_err-panel.ensures in
+    search (rules, refused)
 
-pub slice_bounds-color-end : goal.slice_bounds-color-end
-slice_bounds-color-end c =
-    c.read_sheet-r.ensures.color_count_in_bounds
+pub returns-in_err-wrap_hevc_grid_with_alpha-clause-promised : goal.returns-in_err-wrap_hevc_grid_with_alpha-clause-promised
+returns-in_err-wrap_hevc_grid_with_alpha-clause-promised c =
+    let refused = by_panel c.args.sheet.now c.requires c.in_ok-panel.ensures c.in_err-wrap_hevc_grid_with_alpha.ensures.promised in
+    search (rules, refused)
 
-pub slice_bounds-write_panel-end : goal.slice_bounds-write_panel-end
-slice_bounds-write_panel-end c =
-    sym (length-take-le _ _ c.read_sheet-r.ensures.color_count_in_bounds)
-
-pub slice_bounds-alpha-end : goal.slice_bounds-alpha-end
-slice_bounds-alpha-end c =
-    c.read_sheet-r.ensures.alpha_count_in_bounds
-
-pub slice_bounds-write_panel-end-2 : goal.slice_bounds-write_panel-end-2
-slice_bounds-write_panel-end-2 c =
-    sym (length-take-le _ _ c.read_sheet-r.ensures.alpha_count_in_bounds)
-
-pub returns : goal.returns
-unfolding panel_said
-returns c =
-    by-file _ c.requires c.read_sheet-r.ensures.reads c.if-next-ne0.false (rw c.tell.ensures c.write_panel-answer.ensures)
+pub returns-clause-promised : goal.returns-clause-promised
+returns-clause-promised c = by_panel _ c.requires c.in_ok-panel.ensures c.in_ok-wrap_hevc_grid_with_alpha.ensures.promised

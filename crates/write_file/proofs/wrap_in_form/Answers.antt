@@ -1,22 +1,17 @@
 -- The plan, and where it is made and the output has room, the file.
+use Rattle.std.proofs.Common.{rules}
+use Rattle.panel.specs.Form.{form_of}
+use Rattle.panel.specs.Of.{panel_of}
 use Rattle.write_file.proofs.Promises.{by-refusal, by-room, by_writing}
 use Rattle.write_file.proofs.wrap_in_form.Goals as goal
 
-pub returns-then-out-file : goal.returns-then-out-file
-returns-then-out-file c =
-    let m = rw c.in-Made.is at c.plan_of-plan.ensures.planned in
-    record { promised = by-room _ _ m _ c.if-out-file.true; fits = c.plan_of-plan.ensures.fits }
+pub returns-in_err-plan-clause-promised : goal.returns-in_err-plan-clause-promised
+returns-in_err-plan-clause-promised c =
+    let refused = by-refusal (form_of c.args.form) (panel_of c.args.panel.now) c.args.out.now c.in_err-plan.field-0.0 c.in_err-plan.ensures.planned in
+    search (rules, refused)
 
-pub write_file-requires : goal.write_file-requires
-write_file-requires c =
-    let m = rw c.in-Made.is at c.plan_of-plan.ensures.planned in
-    record { made_from = m; length_in_bounds = c.if-out-file.false }
+pub returns-then-out-plan-clause-promised : goal.returns-then-out-plan-clause-promised
+returns-then-out-plan-clause-promised c = by-room _ _ c.in_ok-plan.ensures.planned _ c.if-out-plan.true
 
-pub returns-in-Refused : goal.returns-in-Refused
-returns-in-Refused c =
-    record { promised = by-refusal _ _ _ c.in-Refused.r (rw c.in-Refused.is at c.plan_of-plan.ensures.planned); fits = c.plan_of-plan.ensures.fits }
-
-pub returns-else-out-file : goal.returns-else-out-file
-returns-else-out-file c =
-    let m = rw c.in-Made.is at c.plan_of-plan.ensures.planned in
-    record { promised = by_writing _ _ m c.if-out-file.false c.write_file.ensures; fits = c.plan_of-plan.ensures.fits }
+pub returns-clause-promised : goal.returns-clause-promised
+returns-clause-promised c = by_writing _ _ c.in_ok-plan.ensures.planned c.if-out-plan.false c.write_file.ensures

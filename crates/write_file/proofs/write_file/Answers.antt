@@ -1,37 +1,59 @@
 -- ftyp, meta and mdat, which are the file.
-use mathlib.Core.Path.{sym, ◌∙◌}
+use mathlib.Core.Path.{◌≡◌, sym, ap, ◌∙◌}
+use Prim.Native.Nat.{◌≤◌}
 use native.Mathlib.Omega.{arith}
-use Rattle.octets.proofs.Stores.{kept, told, ◌▸◌}
-use Rattle.panel.specs.Lent.{lent}
-use Rattle.write_file.proofs.Ready.{sided, item-sizes, property-sizes, meta-sum, ftyp-sum, mdat-whole, mdat-short, color-count, alpha_count}
-use Rattle.write_file.proofs.Ready.{color-end, alpha-end, other-end, file-sum}
-use Rattle.write_file.proofs.Made.{made-file}
+use lib.ListN.{length, drop}
+use Rattle.std.proofs.Common.{rules}
+use Rattle.octets.specs.Numbers.{◌‖◌}
+use Rattle.octets.proofs.Stores.{front, told, ◌▸◌}
+use Rattle.panel.specs.Form.{form_of}
+use Rattle.panel.specs.Of.{panel_of}
+use Rattle.heif.specs.File.{file}
+use Rattle.write_file.proofs.Ready.{ftyp_whole, mdat_whole, long, three_boxes}
 use Rattle.write_file.proofs.write_file.Goals as goal
 
-pub write_ftyp-a-requires : goal.write_ftyp-a-requires
-unfolding lent
-write_ftyp-a-requires c =
-    let made = c.requires.made_from in
-    record { tone_in_bounds = omega (arith, file-sum _ _ _ _ made, made.long, c.requires.length_in_bounds); size_value = ftyp-sum _ _ _ _ made }
+pub write_ftyp-requires-clause-room : goal.write_ftyp-requires-clause-room
+write_ftyp-requires-clause-room c =
+    let made = c.requires.made in
+    rw c.has_tone.ensures (omega (arith, c.requires.room, made.long, long _ _ _ made, c.new-out.ensures.at, ap length c.new-out.ensures.bytes))
 
-pub write_meta-b-requires : goal.write_meta-b-requires
-unfolding lent
-write_meta-b-requires c =
-    let made = c.requires.made_from in
-    record { dims_in_bounds = omega (arith, file-sum _ _ _ _ made, made.long, c.requires.length_in_bounds, c.write_ftyp-a.ensures.wrote.end, kept c.write_ftyp-a.ensures.wrote); item_sizes = item-sizes _ _ _ _ made; property_sizes = property-sizes _ _ _ _ made; narrow_places = made.narrow; sided = sided _ _ _ _ made; meta_value = meta-sum _ _ _ _ made; color_lengths_len = color-count _ _ _ _ made; alpha_lengths_len = alpha_count _ _ _ _ made; color_lengths_bound = color-end _ _ _ _ made; alpha_lengths_bound = alpha-end _ _ _ _ made; xmp_bound = other-end _ _ _ _ made }
+pub write_ftyp-requires-clause-whole : goal.write_ftyp-requires-clause-whole
+write_ftyp-requires-clause-whole c = rw c.has_tone.ensures (ftyp_whole _ _ _ c.requires.made)
 
-pub write_mdat-requires : goal.write_mdat-requires
-unfolding lent
-write_mdat-requires c =
-    let made = c.requires.made_from in
-    record { gain_tmap_in_bounds = omega (arith, file-sum _ _ _ _ made, made.long, c.requires.length_in_bounds, c.write_ftyp-a.ensures.wrote.end, kept c.write_ftyp-a.ensures.wrote, c.write_meta-b.ensures.wrote.end, kept c.write_meta-b.ensures.wrote); size_value = mdat-whole _ _ _ _ made; gain_tmap_bound = mdat-short _ _ _ _ made }
+pub write_meta-requires-clause-room : goal.write_meta-requires-clause-room
+write_meta-requires-clause-room c =
+    let made = c.requires.made in
+    let head = rw c.has_tone.ensures at c.write_ftyp.ensures in
+    omega (arith, c.requires.room, made.long, long _ _ _ made, c.new-out.ensures.at, ap length c.new-out.ensures.bytes, head.wrote.end, head.wrote.kept)
 
-pub shape_of-out : goal.shape_of-out
-shape_of-out c =
-    kept c.write_mdat.ensures.wrote ∙ kept c.write_meta-b.ensures.wrote ∙ kept c.write_ftyp-a.ensures.wrote
+pub write_mdat-requires-clause-room : goal.write_mdat-requires-clause-room
+write_mdat-requires-clause-room c =
+    let made = c.requires.made in
+    let head = rw c.has_tone.ensures at c.write_ftyp.ensures in
+    omega (
+      arith,
+      c.requires.room,
+      made.long,
+      long _ _ _ made,
+      c.new-out.ensures.at,
+      ap length c.new-out.ensures.bytes,
+      head.wrote.end,
+      head.wrote.kept,
+      c.write_meta.ensures.wrote.end,
+      c.write_meta.ensures.wrote.kept,
+    )
+
+pub write_mdat-requires-clause-whole : goal.write_mdat-requires-clause-whole
+write_mdat-requires-clause-whole c = mdat_whole _ _ _ c.requires.made
 
 pub returns : goal.returns
-unfolding lent
 returns c =
-    let made = c.requires.made_from in
-    told (c.write_ftyp-a.ensures ▸ c.write_meta-b.ensures ▸ c.write_mdat.ensures).wrote (made-file _ _ _ _ made) (sym (file-sum _ _ _ _ made))
+    let made = c.requires.made in
+    let f = form_of c.args.form in
+    let p = panel_of c.args.panel.now in
+    let head = rw c.has_tone.ensures at c.write_ftyp.ensures in
+    let wrote = told (head ▸ c.write_meta.ensures ▸ c.write_mdat.ensures).wrote (three_boxes f p _ made) (sym (long f p _ made)) in
+    let room : length (file f p) ≤ length c.new-out.result.bytes.now = omega (arith, c.requires.room, made.long, ap length c.new-out.ensures.bytes) in
+    let bytes : c.write_mdat.new.out.bytes.now ≡ file f p ‖ drop (length (file f p)) c.args.bytes.now
+    = front wrote c.new-out.ensures.at room ∙ ap (λ l. file f p ‖ drop (length (file f p)) l) c.new-out.ensures.bytes in
+    search (rules, bytes)

@@ -1,26 +1,16 @@
--- With the Exif's entry, or without.
-use mathlib.Core.Path.{refl, ap}
-use mathlib.Core.Bool.{Bool, cond}
-use Prim.Native.Nat.{ℕ}
-use native.Mathlib.Omega.{arith}
-use Rattle.octets.proofs.Stores.{told}
+-- The Exif's entry, and the gain map's behind it.
+use mathlib.Core.Path.{refl}
+use Rattle.octets.proofs.Stores.{◌▹◌, told}
 use Rattle.panel.specs.Form.{form_of}
-use Rattle.heif.specs.Iloc.{entry_size}
-use Rattle.write_iloc.proofs.Locations.{exif_absent}
+use Rattle.heif.specs.Items.{exif_id}
+use Rattle.write_iloc.proofs.Locations.{where_present, gain_behind}
 use Rattle.write_iloc.proofs.write_other_locations.Goals as goal
-
-pub write_exif_locations-requires : goal.write_exif_locations-requires
-write_exif_locations-requires c =
-    record { s_in_bounds = omega (arith, c.requires.s_in_bounds, ap (λ (b : Bool). cond {A = ℕ} b (entry_size (form_of c.args.form)) 0) c.if-s.true); shaped = c.requires.shaped; xmp_bound = c.requires.xmp_bound; exif_value = c.if-s.true }
-
-pub returns-then-s : goal.returns-then-s
-returns-then-s c =
-    told c.write_exif_locations.ensures refl (omega (arith, ap (λ (b : Bool). cond {A = ℕ} b (entry_size (form_of c.args.form)) 0) c.if-s.true))
-
-pub write_iloc-requires : goal.write_iloc-requires
-write_iloc-requires c =
-    record { s_in_bounds = omega (arith, c.requires.s_in_bounds, ap (λ (b : Bool). cond {A = ℕ} b (entry_size (form_of c.args.form)) 0) c.if-s.false); shaped = c.requires.shaped; xmp_bound = omega (arith, c.requires.xmp_bound) }
 
 pub returns : goal.returns
 returns c =
-    told c.write_iloc.ensures (exif_absent (form_of c.args.form) c.args.s c.args.offset c.args.exif c.args.gain c.if-s.false) (omega (arith, ap (λ (b : Bool). cond {A = ℕ} b (entry_size (form_of c.args.form)) 0) c.if-s.false))
+    let f = form_of c.args.form in
+    let s = c.args.s in
+    let p = c.args.payloads in
+    let w = rw (c.exif_id.ensures, c.then_some-exif.ensures, c.has_exif.ensures) at c.write_given_location.ensures in
+    let gain = rw (c.unwrap_or.ensures, c.then_some-exif.ensures, c.has_exif.ensures) at c.write_gain_locations.ensures in
+    told (where_present f (exif_id s) p.other p.exif s.exif w ▹ gain) (gain_behind f s p.other p.exif p.gain) refl

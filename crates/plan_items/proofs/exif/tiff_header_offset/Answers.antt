@@ -9,6 +9,6 @@ pub returns-then-begins_with : goal.returns-then-begins_with
 unfolding tiff_header_offset
 returns-then-begins_with c = ap (λ (b : Bool). cond {A = ℕ} b 6 0) (sym c.if-begins_with.true ∙ c.begins_with.ensures)
 
-pub returns : goal.returns
+pub returns-else-begins_with : goal.returns-else-begins_with
 unfolding tiff_header_offset
-returns c = ap (λ (b : Bool). cond {A = ℕ} b 6 0) (sym c.if-begins_with.false ∙ c.begins_with.ensures)
+returns-else-begins_with c = ap (λ (b : Bool). cond {A = ℕ} b 6 0) (sym c.if-begins_with.false ∙ c.begins_with.ensures)

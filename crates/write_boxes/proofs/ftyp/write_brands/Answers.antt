@@ -3,5 +3,4 @@ use Rattle.octets.proofs.Stores.{◌▹◌}
 use Rattle.write_boxes.proofs.ftyp.write_brands.Goals as goal
 
 pub returns : goal.returns
-returns c =
-    c.write_brand-a.ensures ▹ c.w32-b.ensures ▹ c.write_brand-c.ensures ▹ c.put.ensures
+returns c = c.write_brand.ensures ▹ c.w32.ensures ▹ c.write_brand-2.ensures ▹ c.put.ensures

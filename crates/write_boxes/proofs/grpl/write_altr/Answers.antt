@@ -4,5 +4,4 @@ use Rattle.octets.proofs.Stores.{◌▹◌, full_boxed}
 use Rattle.write_boxes.proofs.grpl.write_altr.Goals as goal
 
 pub returns : goal.returns
-returns c =
-    full_boxed "altr" 0 0 c.write_fullbox-a.ensures (c.w32-b.ensures ▹ c.w32-c.ensures ▹ c.w32-d.ensures ▹ c.w32.ensures) refl
+returns c = full_boxed "altr" 0 0 c.write_fullbox.ensures (c.w32.ensures ▹ c.w32-2.ensures ▹ c.w32-3.ensures ▹ c.w32-4.ensures) refl

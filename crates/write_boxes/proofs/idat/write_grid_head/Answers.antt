@@ -4,4 +4,6 @@ use Rattle.write_boxes.proofs.idat.write_grid_head.Goals as goal
 
 pub returns : goal.returns
 returns c =
-    c.w8-a.ensures ▹ c.w8-b.ensures ▹ c.w8-c.ensures ▹ c.w8.ensures
+    let rows = rw c.further_rows.ensures at c.w8-3.ensures in
+    let cols = rw c.further_cols.ensures at c.w8-4.ensures in
+    c.w8.ensures ▹ c.w8-2.ensures ▹ rows ▹ cols

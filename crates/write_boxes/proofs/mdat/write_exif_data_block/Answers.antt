@@ -3,5 +3,4 @@ use Rattle.octets.proofs.Stores.{◌▹◌}
 use Rattle.write_boxes.proofs.mdat.write_exif_data_block.Goals as goal
 
 pub returns : goal.returns
-returns c =
-    rw (← c.tiff_header_offset-offset.ensures) (c.w32-a.ensures ▹ c.put.ensures)
+returns c = rw c.tiff_header_offset.ensures at c.w32.ensures ▹ c.put.ensures

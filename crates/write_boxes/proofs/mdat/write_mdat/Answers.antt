@@ -1,7 +1,12 @@
 -- The head, and the payloads in their order.
-use Rattle.octets.proofs.Stores.{◌▹◌, boxed}
+use mathlib.Core.Path.{refl}
+use native.Mathlib.Omega.{arith}
+use Rattle.octets.proofs.Stores.{◌▹◌, boxed, retold}
+use Rattle.panel.specs.Of.{panel_of}
 use Rattle.write_boxes.proofs.mdat.write_mdat.Goals as goal
 
 pub returns : goal.returns
+unfolding panel_of
 returns c =
-    boxed "mdat" c.write_box-a.ensures (c.put-b.ensures ▹ c.put-c.ensures ▹ c.write_exif_payload-d.ensures ▹ c.write_data.ensures) c.requires.size_value
+    let parts = c.put.ensures ▹ c.put-2.ensures ▹ c.write_exif_payload.ensures ▹ c.write_gain_payloads.ensures in
+    retold (boxed "mdat" c.write_box.ensures parts (omega arith)) refl (omega arith)

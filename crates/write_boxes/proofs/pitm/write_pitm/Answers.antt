@@ -6,5 +6,4 @@ use Rattle.write_ids.proofs.Forms.{raised}
 use Rattle.write_boxes.proofs.pitm.write_pitm.Goals as goal
 
 pub returns : goal.returns
-returns c =
-    retold (raised "pitm" _ 0 c.write_item_box-a.ensures c.write_id.ensures (omega (arith, c.ids_bytes.ensures.value))) refl (omega arith)
+returns c = retold (raised "pitm" _ 0 c.write_item_box.ensures c.write_id.ensures (omega arith)) refl (omega arith)

@@ -5,5 +5,4 @@ use Rattle.octets.proofs.Stores.{◌▹◌, told}
 use Rattle.write_iinf.proofs.infe.write_item_type.Goals as goal
 
 pub returns : goal.returns
-returns c =
-    told (c.w16-a.ensures ▹ c.put-b.ensures ▹ c.w8-c.ensures ▹ c.put.ensures) refl (omega arith)
+returns c = told (c.w16.ensures ▹ c.put.ensures ▹ c.w8.ensures ▹ c.put-2.ensures) refl (omega arith)

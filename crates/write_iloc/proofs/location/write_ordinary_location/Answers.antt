@@ -1,7 +1,10 @@
 -- Six numbers.
-use Rattle.octets.proofs.Stores.{◌▹◌}
+use mathlib.Core.Path.{refl}
+use native.Mathlib.Omega.{arith}
+use Rattle.octets.proofs.Stores.{◌▹◌, told}
 use Rattle.write_iloc.proofs.location.write_ordinary_location.Goals as goal
 
 pub returns : goal.returns
 returns c =
-    c.write_ordinary_id-a.ensures ▹ c.w16-b.ensures ▹ c.w16-c.ensures ▹ c.w16-d.ensures ▹ c.w32-e.ensures ▹ c.w32.ensures
+    let method = rw c.code.ensures at c.w16.ensures in
+    told (c.write_ordinary_id.ensures ▹ method ▹ c.w16-2.ensures ▹ c.w16-3.ensures ▹ c.w32.ensures ▹ c.w32-2.ensures) refl (omega arith)

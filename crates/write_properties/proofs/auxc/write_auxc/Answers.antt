@@ -5,5 +5,4 @@ use Rattle.octets.proofs.Stores.{◌▹◌, full_boxed, retold}
 use Rattle.write_properties.proofs.auxc.write_auxc.Goals as goal
 
 pub returns : goal.returns
-returns c =
-    retold (full_boxed "auxC" 0 0 c.write_fullbox-a.ensures (c.put-b.ensures ▹ c.w8.ensures) (omega (arith, c.size_of.ensures))) refl (omega arith)
+returns c = retold (full_boxed "auxC" 0 0 c.write_fullbox.ensures (c.put.ensures ▹ c.w8.ensures) (omega (arith, c.size_of.ensures))) refl (omega arith)

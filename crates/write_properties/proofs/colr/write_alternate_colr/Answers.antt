@@ -1,20 +1,25 @@
--- What an alternate colour states, or nothing.
-use mathlib.Core.Path.{ap}
+-- Code points or nothing, then a profile or nothing.
+use mathlib.Core.Path.{refl}
 use native.Mathlib.Omega.{arith}
-use Rattle.octets.proofs.Stores.{no_boxes}
-use Rattle.panel.specs.Of.{alternate_of}
-use Rattle.panel.specs.declared.color.MaybeColorMetadata.{MaybeColorMetadata}
-use Rattle.heif.specs.Colr.{alternates_size}
+use Rattle.octets.proofs.Stores.{retold, no_boxes, ◌▸◌}
 use Rattle.write_properties.proofs.colr.write_alternate_colr.Goals as goal
+use Rattle.write_properties.proofs.colr.write_alternate_colr.Goals.{in-Some-cicp, in_default-cicp}
 
-pub write_stated_colr-requires : goal.write_stated_colr-requires
-write_stated_colr-requires c =
-    omega (arith, ap (λ (x : MaybeColorMetadata). alternates_size (alternate_of x c.args.icc.now)) c.in-Some.is)
+pub returns-in-Some-icc : goal.returns-in-Some-icc
+returns-in-Some-icc c =
+    rw (c.in-Some.is, c.in-Some-icc.is)
+    (elim c.match-color.branch [
+      | in-Some-cicp w ↦ rw w.in-Some-cicp.is (rw (← w.out-is) at w.write_colr_nclx.ensures ▸ c.write_colr_icc.ensures)
+      | in_default-cicp w ↦ rw w.in_default-cicp.is (retold (rw w.out-is at c.write_colr_icc.ensures) refl (omega arith))
+    ])
 
-pub returns-in-Some : goal.returns-in-Some
-returns-in-Some c =
-    rw c.in-Some.is c.write_stated_colr.ensures
+pub returns-in_default-icc : goal.returns-in_default-icc
+returns-in_default-icc c =
+    rw (c.in-Some.is, c.in_default-icc.is)
+    (elim c.match-color.branch [
+      | in-Some-cicp w ↦ rw (w.in-Some-cicp.is, w.out-is) w.write_colr_nclx.ensures
+      | in_default-cicp w ↦ rw (w.in_default-cicp.is, w.out-is) no_boxes
+    ])
 
-pub returns-in-None : goal.returns-in-None
-returns-in-None c =
-    rw c.in-None.is no_boxes
+pub returns-in_default : goal.returns-in_default
+returns-in_default c = rw c.in_default.is no_boxes

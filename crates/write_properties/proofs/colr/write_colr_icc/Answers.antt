@@ -5,5 +5,4 @@ use Rattle.octets.proofs.Stores.{◌▹◌, boxed, retold}
 use Rattle.write_properties.proofs.colr.write_colr_icc.Goals as goal
 
 pub returns : goal.returns
-returns c =
-    retold (boxed "colr" c.write_box-a.ensures (c.put-b.ensures ▹ c.put.ensures) (omega (arith, c.size_of.ensures))) refl (omega arith)
+returns c = retold (boxed "colr" c.write_box.ensures (c.put.ensures ▹ c.put-2.ensures) (omega (arith, c.size_of.ensures))) refl (omega arith)

@@ -1,9 +1,16 @@
 -- The head, the kind of colour, three codes and the range.
-use mathlib.Core.Path.{refl, ap}
-use Rattle.octets.specs.Numbers.{be}
-use Rattle.octets.proofs.Stores.{◌▹◌, told, boxed}
+use mathlib.Core.Path.{◌≡◌, refl}
+use mathlib.Core.Bool.{cond}
+use native.Mathlib.Omega.{arith}
+use Rattle.std.proofs.lemmas.Grind.{common_steps}
+use Rattle.octets.proofs.Stores.{◌▹◌, boxed}
 use Rattle.write_properties.proofs.colr.write_colr_nclx.Goals as goal
 
 pub returns : goal.returns
 returns c =
-    boxed "colr" c.write_box-a.ensures (c.put-b.ensures ▹ told c.w16-c.ensures (ap (be 2) c.code.ensures) refl ▹ told c.w16-d.ensures (ap (be 2) c.code-2.ensures) refl ▹ told c.w16-e.ensures (ap (be 2) c.code-3.ensures) refl ▹ told c.w8.ensures (ap (be 1) c.range_byte.ensures) refl) refl
+    let primaries = rw c.code.ensures at c.w16.ensures in
+    let transfer = rw c.code-2.ensures at c.w16-2.ensures in
+    let matrix = rw c.code-3.ensures at c.w16-3.ensures in
+    let whole : c.if-enc.w8 ≡ cond c.args.enc.full_range 0x80 0 = grind (arith, common_steps) in
+    let range = rw whole at c.w8.ensures in
+    boxed "colr" c.write_box.ensures (c.put.ensures ▹ primaries ▹ transfer ▹ matrix ▹ range) refl

@@ -1,25 +1,26 @@
 -- The tone map's properties, or nothing.
-use mathlib.Core.Path.{refl, sym, ap}
-use mathlib.Core.List.{List, [], ◌∷◌, append-nil}
+use mathlib.Core.Path.{◌≡◌, refl, sym}
+use mathlib.Core.Bool.{true, false}
+use mathlib.Core.List.{append-nil}
 use native.Mathlib.Omega.{arith}
-use Rattle.octets.specs.Boxes.{Box}
-use Rattle.octets.proofs.Stores.{retold, no_boxes}
-use Rattle.panel.specs.Of.{part, alternate_of}
-use Rattle.panel.specs.declared.part.Part.{Part}
-use Rattle.heif.specs.Ispe.{ispe}
-use Rattle.heif.specs.Pixi.{pixi}
-use Rattle.heif.specs.Colr.{alternates}
-use Rattle.heif.specs.Ipco.{tone_properties_size}
+use Rattle.std.specs.Prelude.{Option, None, Some, is_some}
+use Rattle.octets.proofs.Stores.{retold, no_boxes, ◌▸◌}
 use Rattle.write_properties.proofs.gain_map.write_tone_properties.Goals as goal
 
-pub write_tone_boxes-requires : goal.write_tone_boxes-requires
-write_tone_boxes-requires c =
-    omega (arith, ap (λ (x : Part). tone_properties_size (part x []) (alternate_of c.args.alternate c.args.icc.now)) c.in-Present.is)
+-- one that is present is some value
+some_of : {A : Type 0} (o : Option A) → is_some o ≡ true → (x : A) × (o ≡ Some x)
+some_of None e = cc
+some_of (Some x) e = (x, refl)
 
-pub returns-in-Present : goal.returns-in-Present
-returns-in-Present c =
-    rw c.in-Present.is (retold c.write_tone_boxes.ensures (ap (λ (r : List Box). ispe c.args.w c.args.h ∷ pixi 3 c.args.depth ∷ r) (sym (append-nil (alternates (alternate_of c.args.alternate c.args.icc.now))))) refl)
+-- one that is absent is none
+none_of : {A : Type 0} (o : Option A) → is_some o ≡ false → o ≡ None
+none_of None e = refl
+none_of (Some x) e = cc
 
-pub returns-in-Absent : goal.returns-in-Absent
-returns-in-Absent c =
-    rw c.in-Absent.is no_boxes
+pub returns-then-is_some : goal.returns-then-is_some
+returns-then-is_some c =
+    let tone = some_of c.args.g.now.tmap (sym c.if-is_some.ensures) in
+    rw tone.1 (retold (c.write_ispe.ensures ▸ c.write_pixi.ensures ▸ c.write_alternate_colr.ensures) (simp append-nil) (omega arith))
+
+pub returns-else-is_some : goal.returns-else-is_some
+returns-else-is_some c = rw (none_of c.args.g.now.tmap (sym c.if-is_some.ensures)) no_boxes

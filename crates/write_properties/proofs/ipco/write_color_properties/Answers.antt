@@ -1,11 +1,10 @@
 -- Five properties.
-use mathlib.Core.Path.{refl, ap}
-use mathlib.Core.List.{[], ◌∷◌}
-use Prim.Native.Nat.{ℕ}
-use Rattle.octets.proofs.Stores.{retold, ◌▸◌}
-use Rattle.heif.specs.Pixi.{pixi}
+use Rattle.octets.proofs.Stores.{◌▸◌}
+use Rattle.panel.specs.Of.{panel_of}
 use Rattle.write_properties.proofs.ipco.write_color_properties.Goals as goal
 
 pub returns : goal.returns
+unfolding panel_of
 returns c =
-    c.write_hvcc-a.ensures ▸ c.write_ispe-b.ensures ▸ c.write_ispe-c.ensures ▸ c.write_colr-d.ensures ▸ retold c.write_pixi_color.ensures (ap (λ (k : ℕ). pixi 3 k ∷ []) c.bits.ensures) refl
+    let depth = rw c.bits.ensures at c.write_pixi.ensures in
+    c.write_hvcc.ensures ▸ c.write_ispe.ensures ▸ c.write_ispe-2.ensures ▸ c.write_colr.ensures ▸ depth

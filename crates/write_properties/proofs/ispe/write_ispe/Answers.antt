@@ -4,5 +4,4 @@ use Rattle.octets.proofs.Stores.{◌▹◌, full_boxed}
 use Rattle.write_properties.proofs.ispe.write_ispe.Goals as goal
 
 pub returns : goal.returns
-returns c =
-    full_boxed "ispe" 0 0 c.write_fullbox-a.ensures (c.w32-b.ensures ▹ c.w32.ensures) refl
+returns c = full_boxed "ispe" 0 0 c.write_fullbox.ensures (c.w32.ensures ▹ c.w32-2.ensures) refl

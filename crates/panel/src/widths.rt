@@ -1,0 +1,44 @@
+// What the types of a panel's numbers say of them. These functions do nothing: their contracts are what counts.
+ghost use Rattle.std.specs.Prelude.{option_map};
+ghost use Rattle.panel.specs.Of.{gain_of, panel_of};
+ghost use Rattle.panel.specs.Widths.{Of, DimsFit, LightFits, GainFits, Fits};
+
+use crate::gain_map::EncodedGainMap;
+use crate::metadata::ContentLightLevel;
+use crate::{GridDims, Panel};
+
+// The sizes of the grid.
+fn dims_fit(_dims: GridDims)
+    ensures { DimsFit _dims }
+{}
+
+// The light level.
+fn light_fits(light: Option<ContentLightLevel>)
+    ensures { Of LightFits light }
+{
+    if let Some(level) = light {
+        let _ = level;
+    }
+}
+
+// The sides of the gain image.
+fn gain_fits(gain: Option<EncodedGainMap>)
+    ensures { Of GainFits (option_map gain_of gain.entry) }
+{
+    if let Some(g) = gain {
+        let _ = g.width;
+        let _ = g.height;
+    }
+}
+
+impl<'a> Panel<'a> {
+    // Each number has the width that the theorem on equal files asks for.
+    #[tactic(auto, unfolding(crate::specs::Of::panel_of))]
+    pub fn fits(&self)
+        ensures { Fits (panel_of self.now) }
+    {
+        dims_fit(self.dims);
+        light_fits(self.metadata.content_light_level);
+        gain_fits(self.gain_map);
+    }
+}
