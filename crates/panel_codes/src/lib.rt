@@ -50,7 +50,7 @@ impl Coded for BitDepth {
 
     ghost every = { every_depth };
 
-    // By `match`, since a depth is the number of its bits, and its code is not.
+    // By `match`, so that the codes do not hang on the order in which the depths stand; these have no numbers of their own.
     fn code(self) -> u16 {
         match self {
             BitDepth::Eight => 0,

@@ -30,4 +30,5 @@ pub record MadeFrom (f : Form) (p : Panel) (m : FilePlan) : Type 0 where
   pub long : m.length ≡ length (file f p)
   pub laid : Laid f p m.layout
   pub placed : Placed p m.places
+  pub count : m.places.count ≤ 127
   pub few : (r : Role) → length (its_of m.places r) ≤ 2

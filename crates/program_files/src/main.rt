@@ -87,6 +87,7 @@ fn write_full(rt: &impl Print) -> io::Result<()> {
             }),
         }),
     };
+    // Four bytes longer than the file, as nothing here allocates: what is behind the file is printed too.
     let mut out = [0xEEu8; 1186];
     let _ = wrap_hevc_grid_with_alpha(&panel, &mut out);
     rt.write_all(&out)

@@ -47,6 +47,7 @@ fn write(
         },
         gain_map: None,
     };
+    // Longer than each of these files, as nothing here allocates: what is behind a file is printed too.
     let mut out = [0xEEu8; 600];
     let _ = wrap_hevc_grid_with_alpha(&panel, &mut out);
     rt.write_all(&out)

@@ -11,7 +11,7 @@ use std::io;
 use std::io::Read;
 use words::words_of;
 
-// Fills the room from its front until it is full or the input ends, and answers how many bytes were read.
+// Fills the room from its front until it is full or the input ends, and answers how many bytes were read, as `read` does.
 pub fn read_full(input: &mut impl Read, room: &mut [u8]) -> io::Result<usize>
     ensures within { IfOk result (λ n. n ≤ length room.new) }
 {
@@ -28,7 +28,7 @@ pub fn read_full(input: &mut impl Read, room: &mut [u8]) -> io::Result<usize>
 }
 
 // Prints what a sheet is answered, with room for a file of 32,768 bytes: a whole file, of so many bytes, or a refusal, by its number. An
-// error says that not all of it could be printed.
+// error says that not all of it could be printed. The room is of a fixed size, as nothing here allocates.
 pub fn print_sheet_file(rt: &impl Print, sheet: &[u8]) -> io::Result<Result<u64, SheetRefusal>> {
     let mut room = [0u8; 32768];
     let answer = sheet_file(sheet, &mut room);

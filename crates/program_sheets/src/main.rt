@@ -5,7 +5,8 @@ use program_print::{print_sheet_file, read_full};
 use std::fs::File;
 use std::{env, io};
 
-// Prints what the sheet in a file is answered; false where not all of it could be printed.
+// Prints what the sheet in a file is answered; false where not all of it could be printed. The room is of a fixed size, as nothing here
+// allocates.
 fn run(rt: &HostRuntime, path: &str) -> io::Result<bool> {
     let mut input = [0u8; 12289];
     let mut file = File::open(rt, path)?;

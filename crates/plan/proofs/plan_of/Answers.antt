@@ -32,5 +32,6 @@ returns-clause-planned c =
       long = omega (arith, long, whole);
       laid = c.placed.ensures f passed.even passed.items sized;
       placed = c.places_of-places.ensures.placed;
+      count = c.places_of-places.ensures.count_bound;
       few = c.places_of-places.ensures.few;
     }
