@@ -36,7 +36,7 @@ mistaken write_ipma association.rt 'write_ordinary_association(out, ordinary_id(
 mistaken write_ipma association.rt 'write_association(out, form, id' "write_association(out, form, $position" "$for_counted"
 mistaken write_ipma association.rt 'write_association(out, form, WideItemId(id)' "write_association(out, form, $position" "$for_counted"
 mistaken write_iloc location.rt 'write_ordinary_location(out, ordinary_id(l.id)' "write_ordinary_location(out, $position" "$for_ordinary"
-mistaken write_iloc location.rt 'WideItemId(first.0 + i as u32)' "$position" "$for_counted"
+mistaken write_iloc location.rt 'WideItemId(id)' "$position" "$for_counted"
 
 # An id over u32 for one over u16.
 uncut="expected \`ItemId\`, found \`WideItemId\`"

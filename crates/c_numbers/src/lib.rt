@@ -8,7 +8,7 @@ ghost use Rattle.c_types.specs.Lent.{lent_of};
 ghost use Rattle.c_numbers.specs.Codes.{Stands, cicp_from, colour_from, metadata_from, gain_from, panel_from};
 ghost use Rattle.panel_codes.specs.Known.{Known};
 
-use c_types::{CicpCodes, ColorCodes, GainCodes, LentParts, PanelCodes, dims_value, light_value};
+use c_types::{CicpCodes, ColorCodes, GainCodes, LentParts, PanelCodes};
 use panel::Panel;
 use panel::color::{Cicp, ColorMetadata};
 use panel::gain_map::EncodedGainMap;
@@ -27,13 +27,9 @@ fn cicp_from(c: CicpCodes) -> Result<Cicp, UnknownCode>
 fn color_from<'a>(c: ColorCodes, icc: &'a [u8]) -> Result<ColorMetadata<'a>, UnknownCode>
     ensures { Stands colour_of (colour_from c icc.now) result }
 {
-    let has_cicp = named(c.has_cicp as u16)?;
+    let has_cicp: bool = named(c.has_cicp as u16)?;
     let has_icc: bool = named(c.has_icc as u16)?;
-    let cicp = if has_cicp {
-        Some(cicp_from(c.cicp)?)
-    } else {
-        None
-    };
+    let cicp = has_cicp.then(|| cicp_from(c.cicp)).transpose()?;
     Ok(ColorMetadata {
         cicp,
         icc: has_icc.then_some(icc),
@@ -47,13 +43,11 @@ fn gain_from<'a>(g: GainCodes, parts: &LentParts<'a>) -> Result<EncodedGainMap<'
 {
     let bit_depth = named(g.bit_depth as u16)?;
     let has_tmap: bool = named(g.has_tmap as u16)?;
-    let has_alternate = named(g.has_alternate as u16)?;
+    let has_alternate: bool = named(g.has_alternate as u16)?;
     let cicp = cicp_from(g.cicp)?;
-    let alternate_color = if has_alternate {
-        Some(color_from(g.alternate, parts.alternate_icc)?)
-    } else {
-        None
-    };
+    let alternate_color = has_alternate
+        .then(|| color_from(g.alternate, parts.alternate_icc))
+        .transpose()?;
     Ok(EncodedGainMap {
         hvcc: parts.gain_hvcc,
         sample: parts.gain_sample,
@@ -77,7 +71,7 @@ fn metadata_from<'a>(c: PanelCodes, exif: &'a [u8]) -> Result<Metadata<'a>, Unkn
     let has_exif: bool = named(c.has_exif as u16)?;
     Ok(Metadata {
         orientation,
-        content_light_level: has_light.then_some(light_value(c)),
+        content_light_level: has_light.then_some(c.light_level()),
         exif: has_exif.then_some(exif),
     })
 }
@@ -92,13 +86,14 @@ pub fn panel_from<'a>(c: PanelCodes, parts: &LentParts<'a>) -> Result<Panel<'a>,
     let metadata = metadata_from(c, parts.exif)?;
     let color_meta = color_from(c.color, parts.icc)?;
     let has_gain = named(c.has_gain as u16)?;
+    // By `if`: with `then`, as in gain_from, the proof did not close.
     let gain_map = if has_gain {
         Some(gain_from(c.gain, parts)?)
     } else {
         None
     };
     Ok(Panel {
-        dims: dims_value(c),
+        dims: c.dims(),
         bit_depth,
         alpha_bit_depth,
         color: parts.color,

@@ -1,10 +1,10 @@
 // What crosses to C: a panel as numbers and codes, its byte parts, and what a call answers; and what is read off a panel without looking a
-// code up.
+// code up. C's enums have no fixed size, so that a code is a number. C has no Option, so that a byte whose name begins with has is 1 where
+// the part is present, else 0; and its bool is no type of this interface.
 #![tactic(auto)]
 
 ghost use Rattle.std.specs.Prelude.{◌≡◌};
-ghost use Rattle.panel.specs.Outcome.{refused};
-ghost use Rattle.c_types.specs.Told.{told, says_number};
+ghost use Rattle.c_types.specs.Told.{Tells};
 ghost use Rattle.c_types.specs.Plain.{dims_value, light_value};
 
 use panel::metadata::ContentLightLevel;
@@ -20,7 +20,7 @@ pub struct CicpCodes {
     pub full_range: u8,
 }
 
-// How a picture states its colour. Each byte that begins with has is 1 where the part is present, else 0.
+// How a picture states its colour.
 #[repr(C)]
 #[derive(Clone, Copy)]
 pub struct ColorCodes {
@@ -64,6 +64,33 @@ pub struct PanelCodes {
     pub gain: GainCodes,
 }
 
+// Methods and not From: a panel's codes are no grid and no light level, they hold one of each.
+impl PanelCodes {
+    // The tile grid.
+    pub fn dims(self) -> GridDims
+        ensures { result ≡ dims_value self }
+    {
+        GridDims {
+            cols: self.cols,
+            rows: self.rows,
+            tile_w: self.tile_w,
+            tile_h: self.tile_h,
+            full_w: self.full_w,
+            full_h: self.full_h,
+        }
+    }
+
+    // The light level, which is there where has_light is 1.
+    pub fn light_level(self) -> ContentLightLevel
+        ensures { result ≡ light_value self }
+    {
+        ContentLightLevel {
+            max_content_light_level: self.max_content_light_level,
+            max_pic_average_light_level: self.max_pic_average_light_level,
+        }
+    }
+}
+
 // The byte parts of a panel that comes as codes. Those of an absent part are not looked at.
 #[derive(Clone, Copy)]
 pub struct LentParts<'a> {
@@ -86,51 +113,17 @@ pub struct Told {
     pub length: u64,
 }
 
-impl Told {
-    // A length, or the number of a refusal.
-    pub fn of(answer: Result<u64, u8>) -> Told
-        ensures { result ≡ told (says_number answer) }
-    {
+// A length, or the number of a refusal.
+impl<E: Into<u8>> From<Result<u64, E>> for Told {
+    ghost from_gives = { Tells E.converts };
+
+    fn from(answer: Result<u64, E>) -> Told {
         match answer {
             Ok(length) => Told { refusal: 0, length },
-            Err(number) => Told {
-                refusal: number as u32,
+            Err(refusal) => Told {
+                refusal: refusal.into() as u32,
                 length: 0,
             },
         }
-    }
-}
-
-// The refusal of a code that stands for nothing.
-pub fn unknown_code() -> Told
-    ensures { result ≡ told (refused 13) }
-{
-    Told {
-        refusal: 13,
-        length: 0,
-    }
-}
-
-// The tile grid.
-pub fn dims_value(c: PanelCodes) -> GridDims
-    ensures { result ≡ dims_value c }
-{
-    GridDims {
-        cols: c.cols,
-        rows: c.rows,
-        tile_w: c.tile_w,
-        tile_h: c.tile_h,
-        full_w: c.full_w,
-        full_h: c.full_h,
-    }
-}
-
-// The light level, which is there where has_light is 1.
-pub fn light_value(c: PanelCodes) -> ContentLightLevel
-    ensures { result ≡ light_value c }
-{
-    ContentLightLevel {
-        max_content_light_level: c.max_content_light_level,
-        max_pic_average_light_level: c.max_pic_average_light_level,
     }
 }

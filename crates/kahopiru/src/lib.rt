@@ -1,49 +1,59 @@
-// The functions of the static library: the length of a panel's file, the file, and where a tile lies (tile). A panel comes as numbers and
-// codes, its byte parts lent beside them, each as a pointer and a length. A code that stands for nothing is refused with 13, before all checks.
+// The functions of the static library: the length of a panel's file, the file, the file of a panel sheet (sheet_call), and where a tile
+// lies (tile). A panel comes as numbers and codes, its byte parts lent beside them, each as a pointer and a length. A code that stands for
+// nothing is refused before all checks.
 
 #![tactic(auto)]
 
+mod refusal;
 pub mod sheet_call;
 pub mod tile;
 
 ghost use Rattle.std.specs.Prelude.{◌≡◌, length};
+ghost use Rattle.panel.specs.Of.{tiles_of};
+ghost use Rattle.panel.specs.Outcome.{says_by};
 ghost use Rattle.c_types.specs.Lent.{lent, lent_of};
 ghost use Rattle.c_types.specs.Told.{told};
 ghost use Rattle.kahopiru.specs.Calls.{said_length, said, after_call};
+ghost use Rattle.kahopiru.specs.Refusal.{call_number};
 
 use c_numbers::panel_from;
-use c_types::{LentParts, PanelCodes, Told, unknown_code};
+use c_types::{LentParts, PanelCodes, Told};
 use panel::{Samples, Tiles};
 use plan::file_length;
+use refusal::CallRefusal;
 use write_file::wrap_hevc_grid_with_alpha;
 
-// The length of a panel's file, of byte parts that stand in one struct.
-#[tactic(auto, unfolding(crate::specs::Calls::said_length))]
-fn length_told(panel: PanelCodes, parts: &LentParts) -> Told
-    ensures { result ≡ told (said_length panel (lent_of parts.now)) }
+// A picture's tiles.
+fn tiles<'a>(hvcc: &'a [u8], lengths: &'a [u32], bytes: &'a [u8]) -> Tiles<'a>
+    ensures { tiles_of result ≡ record { hvcc = hvcc.now; lengths = lengths.now; bytes = bytes.now } }
 {
-    match panel_from(panel, parts) {
-        Ok(panel) => Told::of(file_length(&panel).map_err(|refusal| refusal.number())),
-        Err(_) => unknown_code(),
+    Tiles {
+        hvcc,
+        samples: Samples { lengths, bytes },
     }
 }
 
-// The file of a panel, of byte parts that stand in one struct.
+// The length of a panel's file, of byte parts that stand in one struct; or why the call is refused.
+#[tactic(auto, unfolding(crate::specs::Calls::said_length))]
+fn length_from(panel: PanelCodes, parts: &LentParts) -> Result<u64, CallRefusal>
+    ensures { says_by call_number result ≡ said_length panel (lent_of parts.now) }
+{
+    let panel = panel_from(panel, parts)?;
+    Ok(file_length(&panel)?)
+}
+
+// The file of a panel, of byte parts that stand in one struct, in the output; or why the call is refused, and the output as it was.
 #[tactic(auto, unfolding(crate::specs::Calls::said, crate::specs::Calls::after_call))]
-fn write_told(panel: PanelCodes, parts: &LentParts, out: &mut [u8]) -> Told
-    ensures told { result ≡ told (said panel (lent_of parts.now) (length out.old)) }
+fn write_from(panel: PanelCodes, parts: &LentParts, out: &mut [u8]) -> Result<u64, CallRefusal>
+    ensures answer { says_by call_number result ≡ said panel (lent_of parts.now) (length out.old) }
     ensures out_after { out.new ≡ after_call panel (lent_of parts.now) out.old }
 {
-    match panel_from(panel, parts) {
-        Ok(panel) => {
-            Told::of(wrap_hevc_grid_with_alpha(&panel, out).map_err(|refusal| refusal.number()))
-        }
-        Err(_) => unknown_code(),
-    }
+    let panel = panel_from(panel, parts)?;
+    Ok(wrap_hevc_grid_with_alpha(&panel, out)?)
 }
 
 // The length of a panel's file, or the number of its refusal. C hands over each part as two arguments, so that this call and the next name
-// all of them.
+// all of them. Each builds the struct itself: a function for it would take the parts by place, where here each has its name.
 #[unsafe(no_mangle)]
 pub extern "C" fn kahopiru_file_length(
     panel: PanelCodes,
@@ -64,20 +74,8 @@ pub extern "C" fn kahopiru_file_length(
     ensures { result ≡ told (said_length panel (lent color_hvcc.now alpha_hvcc.now color_lengths.now alpha_lengths.now color_samples.now alpha_samples.now icc.now exif.now gain_hvcc.now gain_sample.now gain_xmp.now gain_tmap.now alternate_icc.now)) }
 {
     let parts = LentParts {
-        color: Tiles {
-            hvcc: color_hvcc,
-            samples: Samples {
-                lengths: color_lengths,
-                bytes: color_samples,
-            },
-        },
-        alpha: Tiles {
-            hvcc: alpha_hvcc,
-            samples: Samples {
-                lengths: alpha_lengths,
-                bytes: alpha_samples,
-            },
-        },
+        color: tiles(color_hvcc, color_lengths, color_samples),
+        alpha: tiles(alpha_hvcc, alpha_lengths, alpha_samples),
         icc,
         exif,
         gain_hvcc,
@@ -86,7 +84,7 @@ pub extern "C" fn kahopiru_file_length(
         gain_tmap,
         alternate_icc,
     };
-    length_told(panel, &parts)
+    length_from(panel, &parts).into()
 }
 
 // The file of a panel in the output, and its length; or the number of its refusal, and the output as it was.
@@ -112,20 +110,8 @@ pub extern "C" fn kahopiru_write(
     ensures out_after { out.new ≡ after_call panel (lent color_hvcc.now alpha_hvcc.now color_lengths.now alpha_lengths.now color_samples.now alpha_samples.now icc.now exif.now gain_hvcc.now gain_sample.now gain_xmp.now gain_tmap.now alternate_icc.now) out.old }
 {
     let parts = LentParts {
-        color: Tiles {
-            hvcc: color_hvcc,
-            samples: Samples {
-                lengths: color_lengths,
-                bytes: color_samples,
-            },
-        },
-        alpha: Tiles {
-            hvcc: alpha_hvcc,
-            samples: Samples {
-                lengths: alpha_lengths,
-                bytes: alpha_samples,
-            },
-        },
+        color: tiles(color_hvcc, color_lengths, color_samples),
+        alpha: tiles(alpha_hvcc, alpha_lengths, alpha_samples),
         icc,
         exif,
         gain_hvcc,
@@ -134,5 +120,5 @@ pub extern "C" fn kahopiru_write(
         gain_tmap,
         alternate_icc,
     };
-    write_told(panel, &parts, out)
+    write_from(panel, &parts, out).into()
 }

@@ -12,5 +12,5 @@ pub extern "C" fn kahopiru_sheet(sheet: &[u8], out: &mut [u8]) -> Told
     ensures value { result ≡ told (sheet_answer sheet.now (length out.old)) }
     ensures out_after { out.new ≡ sheet_after sheet.now out.old }
 {
-    Told::of(sheet_file(sheet, out).map_err(|refusal| refusal.number()))
+    sheet_file(sheet, out).into()
 }

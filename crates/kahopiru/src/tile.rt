@@ -8,7 +8,7 @@ use panel::{ItemId, Samples};
 use plan_tile::{TileRefusal, TileSpan, tile_span};
 
 // Where a tile's payload lies: in the alpha samples where `alpha` is 1, else in the colour samples, from `start` on, `length` bytes.
-// Where `refusal` is not 0, all else is 0: C has no Result.
+// Where `refusal` is not 0, all else is 0: C has no Result, and its bool is no type of this interface.
 #[repr(C)]
 #[derive(Clone, Copy)]
 pub struct TilePlace {
@@ -18,11 +18,11 @@ pub struct TilePlace {
     pub length: u64,
 }
 
-impl TilePlace {
-    // A span, or the number of a refusal.
-    fn of(answer: Result<TileSpan, TileRefusal>) -> TilePlace
-        ensures { result ≡ tile_told (span_told answer) }
-    {
+// A span, or the number of a refusal.
+impl From<Result<TileSpan, TileRefusal>> for TilePlace {
+    ghost from_gives = { λ answer place. place ≡ tile_told (span_told answer) };
+
+    fn from(answer: Result<TileSpan, TileRefusal>) -> TilePlace {
         match answer {
             Ok(span) => TilePlace {
                 refusal: 0,
@@ -31,7 +31,7 @@ impl TilePlace {
                 length: span.size as u64,
             },
             Err(refusal) => TilePlace {
-                refusal: refusal.number() as u32,
+                refusal: u8::from(refusal) as u32,
                 alpha: 0,
                 start: 0,
                 length: 0,
@@ -59,5 +59,5 @@ pub extern "C" fn kahopiru_tile(
         lengths: alpha_lengths,
         bytes: alpha_samples,
     };
-    TilePlace::of(tile_span(ItemId(id), color, alpha))
+    tile_span(ItemId(id), color, alpha).into()
 }

@@ -9,8 +9,9 @@ use native.Mathlib.Omega.{arith}
 use lib.Dec.{eqb}
 use lib.ListN.{length, length-append, take, drop, get_or, take-append-drop}
 use lib.Seq.{take-suc, drop-cons}
-use borrow.Author.Tests.{eqb-true, eq-eqb}
-use Rattle.std.specs.List.{starts_with}
+use borrow.Author.Tests.{eqb-true, eq-eqb, ne_eqb}
+use Rattle.std.specs.List.{starts_with, sum}
+use Rattle.std.proofs.lemmas.List.Sums.{sum_by-cons}
 use Rattle.octets.specs.Numbers.{total, ◌begins_with◌}
 use Rattle.octets.proofs.Tests.{and_both, and-second_false}
 
@@ -40,6 +41,11 @@ cond-mul true n = omega arith
 cond-mul false n = omega arith
 
 -- ---- sums
+
+-- the library's sum is the definition's
+pub sum_is_total : (l : List ℕ) → sum l ≡ total l
+sum_is_total [] = refl
+sum_is_total (n ∷ l) = omega (arith, sum_is_total l, sum_by-cons (λ x. x) n l)
 
 pub total-append : (x y : List ℕ) → total (x ++ y) ≡ total x + total y
 total-append [] y = omega arith
@@ -84,6 +90,17 @@ begins_started [] [] = refl
 begins_started [] (m ∷ front) = refl
 begins_started (b ∷ l) [] = refl
 begins_started (b ∷ l) (m ∷ front) = ap (λ (r : Bool). eqb m b && r) (begins_started l front)
+
+-- from an index on, within both: the byte there decides, or the bytes behind it do
+module _ (l front : List ℕ) (i : ℕ) (h : i < length l) (k : i < length front) where
+  begins_step : drop i l begins_with drop i front ≡ (eqb (get_or front i 0) (get_or l i 0) && drop (i + 1) l begins_with drop (i + 1) front)
+  begins_step = rw (drop-step l i h, drop-step front i k)
+
+  pub begins_differs : (get_or l i 0 ≡ get_or front i 0 → ⊥) → drop i l begins_with drop i front ≡ false
+  begins_differs d = begins_step ∙ rw (ne_eqb (get_or front i 0) (get_or l i 0) (λ e. d (sym e)))
+
+  pub begins_next : get_or l i 0 ≡ get_or front i 0 → drop i l begins_with drop i front ≡ drop (i + 1) l begins_with drop (i + 1) front
+  begins_next e = begins_step ∙ rw (eq-eqb (get_or front i 0) (get_or l i 0) (sym e))
 
 -- ---- lists of lists
 

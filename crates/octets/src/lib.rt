@@ -4,19 +4,20 @@
 #![tactic(auto)]
 
 ghost use Rattle.std.specs.Prelude.{◌≡◌, ◌+◌, ◌<◌, [], length};
-ghost use Rattle.octets.specs.Numbers.{◌‖◌, be, ◌begins_with◌};
+ghost use Rattle.octets.specs.Numbers.{◌‖◌, be, total, ◌begins_with◌};
 ghost use Rattle.octets.specs.Stores.{Room, Wrote};
 
 // A lent buffer, and the position from which it is written on. Each function that writes raises the position behind what it wrote.
 //
-// Its fields are open, since a caller learns what its buffer holds at the end only of a reference that it can see.
+// Its fields are open, so that a caller which gives its buffer into it learns from a field what the buffer holds at the end.
 #[derive(Drop)]
 pub struct Output<'a> {
     pub bytes: &'a mut [u8],
     pub at: usize,
 }
 
-// w8, w16 and w32 are three and not one over the type of the number: a box's definition gives each field's width, and so does each call.
+// w8, w16 and w32 are three and not one over the type of the number, which would be no plainer for a caller: a box's definition gives each
+// field's width, and so does the name of each call, where the type of an argument would have to be looked up.
 impl<'a> Output<'a> {
     // A buffer, to be written from its front.
     pub fn new(bytes: &'a mut [u8]) -> Output<'a>
@@ -61,7 +62,7 @@ impl<'a> Output<'a> {
         self.put(&v.to_be_bytes());
     }
 
-    // Writes the head of a box: its whole size and its type.
+    // Writes the head of a box: its whole size, which the box's writer is handed as a number or works out, and its type.
     pub fn write_box(&mut self, size: u32, cc: &[u8; 4])
         requires { Room self.old 8 }
         ensures { Wrote self.old 8 (be 4 size ‖ cc.now) self.new }
@@ -87,6 +88,13 @@ pub fn size_of(head: u32, len: usize) -> u32
     ensures { result ≡ head + len }
 {
     head + len as u32
+}
+
+// The sum of lengths. Memory holds too few of them to wrap 128 bits.
+pub fn total(lengths: &[u32]) -> u128
+    ensures { result ≡ total lengths.now }
+{
+    lengths.iter().map(|&n| u128::from(n)).sum()
 }
 
 // Whether bytes begin with others.

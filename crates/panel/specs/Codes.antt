@@ -1,5 +1,5 @@
--- A value looked up by its code: the values of each colour enum, and the one of a list that a code names.
-use Rattle.std.specs.Prelude.{cond, List, [], ◌∷◌, ℕ, eqb, Option, None, Some}
+-- Codes: the values of each colour enum, the code of a depth, an orientation, yes or no, and the one of a list that a code names.
+use Rattle.std.specs.Prelude.{Bool, true, false, cond, List, [], ◌∷◌, ℕ, eqb, Option, None, Some}
 use Rattle.panel.specs.Types.{primaries_code, transfer_code, matrix_code}
 use Rattle.panel.specs.declared.color.Primaries.{Primaries}
 use Rattle.panel.specs.declared.color.Primaries.TheVariants as P
@@ -7,6 +7,10 @@ use Rattle.panel.specs.declared.color.TransferFunction.{TransferFunction}
 use Rattle.panel.specs.declared.color.TransferFunction.TheVariants as T
 use Rattle.panel.specs.declared.color.MatrixCoefficients.{MatrixCoefficients}
 use Rattle.panel.specs.declared.color.MatrixCoefficients.TheVariants as M
+use Rattle.panel.specs.declared.fmt.BitDepth.{BitDepth}
+use Rattle.panel.specs.declared.fmt.BitDepth.TheVariants.{Eight, Ten, Twelve}
+use Rattle.panel.specs.declared.metadata.Orientation.{Orientation}
+use Rattle.panel.specs.declared.metadata.Orientation.TheVariants.{Normal, FlipH, Rotate180, FlipV, Transpose, Rotate90, Transverse, Rotate270}
 
 -- the value of the list whose code is n, or none
 abbrev pub named : {A : Type 0} → (A → ℕ) → List A → ℕ → Option A
@@ -30,3 +34,37 @@ every_matrix = M.Identity ∷ M.Bt709 ∷ M.Unspecified ∷ M.Reserved ∷ M.Fcc
 
 abbrev pub matrix_named : ℕ → Option MatrixCoefficients
 matrix_named n = named matrix_code every_matrix n
+
+-- ---- depth
+
+abbrev pub depth_code : BitDepth → ℕ
+depth_code Eight = 0
+depth_code Ten = 1
+depth_code Twelve = 2
+
+unfoldable pub every_depth : List BitDepth
+every_depth = Eight ∷ Ten ∷ Twelve ∷ []
+
+-- ---- orientation
+
+abbrev pub orientation_code : Orientation → ℕ
+orientation_code Normal = 0
+orientation_code FlipH = 1
+orientation_code Rotate180 = 2
+orientation_code FlipV = 3
+orientation_code Transpose = 4
+orientation_code Rotate90 = 5
+orientation_code Transverse = 6
+orientation_code Rotate270 = 7
+
+unfoldable pub every_orientation : List Orientation
+every_orientation = Normal ∷ FlipH ∷ Rotate180 ∷ FlipV ∷ Transpose ∷ Rotate90 ∷ Transverse ∷ Rotate270 ∷ []
+
+-- ---- yes or no
+
+abbrev pub bool_code : Bool → ℕ
+bool_code false = 0
+bool_code true = 1
+
+unfoldable pub every_bool : List Bool
+every_bool = false ∷ true ∷ []

@@ -1,6 +1,6 @@
 // Colour: the code points of ISO/IEC 23091-2 (CICP), and how a picture states its colour.
 ghost use Rattle.std.specs.Prelude.{◌≡◌};
-ghost use Rattle.panel.specs.Types.{primaries_code, transfer_code, matrix_code, unspecified};
+ghost use Rattle.panel.specs.Types.{unspecified};
 
 // Colour primaries (ISO/IEC 23091-2, table 2), each with its code point.
 #[derive(Clone, Copy)]
@@ -20,16 +20,8 @@ pub enum Primaries {
     Ebu3213 = 22,
 }
 
-impl Primaries {
-    // The code point.
-    pub fn code(self) -> u16
-        ensures { result ≡ primaries_code self }
-    {
-        self as u16
-    }
-}
-
-// Transfer characteristics (ISO/IEC 23091-2, table 3), each with its code point.
+// Transfer characteristics (ISO/IEC 23091-2, table 3), each with its code point. It and the next are two tables of the
+// standard, whose numbers name other things.
 #[derive(Clone, Copy)]
 pub enum TransferFunction {
     Reserved = 0,
@@ -50,15 +42,6 @@ pub enum TransferFunction {
     Smpte2084 = 16,
     Smpte428 = 17,
     Hlg = 18,
-}
-
-impl TransferFunction {
-    // The code point.
-    pub fn code(self) -> u16
-        ensures { result ≡ transfer_code self }
-    {
-        self as u16
-    }
 }
 
 // Matrix coefficients (ISO/IEC 23091-2, table 4), each with its code point.
@@ -82,15 +65,6 @@ pub enum MatrixCoefficients {
     IPtC2 = 15,
     YCgCoRe = 16,
     YCgCoRo = 17,
-}
-
-impl MatrixCoefficients {
-    // The code point.
-    pub fn code(self) -> u16
-        ensures { result ≡ matrix_code self }
-    {
-        self as u16
-    }
 }
 
 // A colour encoding by code points.

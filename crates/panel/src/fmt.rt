@@ -1,23 +1,19 @@
-// The bit depth of samples.
+// The bit depth of samples, each with its bit count.
 ghost use Rattle.std.specs.Prelude.{◌≡◌};
 ghost use Rattle.panel.specs.Types.{bits};
 
 #[derive(Clone, Copy)]
 pub enum BitDepth {
-    Eight,
-    Ten,
-    Twelve,
+    Eight = 8,
+    Ten = 10,
+    Twelve = 12,
 }
 
 impl BitDepth {
-    // Bit count: 8, 10 or 12.
+    // The bit count.
     pub fn bits(self) -> u8
         ensures { result ≡ bits self }
     {
-        match self {
-            BitDepth::Eight => 8,
-            BitDepth::Ten => 10,
-            BitDepth::Twelve => 12,
-        }
+        self as u8
     }
 }

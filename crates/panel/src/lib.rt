@@ -5,6 +5,7 @@
 
 #![tactic(auto)]
 
+pub mod coded;
 pub mod color;
 pub mod fmt;
 pub mod gain_map;
@@ -12,14 +13,14 @@ pub mod metadata;
 pub mod when;
 pub mod widths;
 
-ghost use Rattle.std.specs.Prelude.{◌≡◌};
+ghost use Rattle.std.specs.Prelude.{◌≡◌, ◌+◌, ◌<◌};
 ghost use Rattle.panel.specs.Form.{form_of, FormWidths};
-ghost use Rattle.panel.specs.Outcome.{number};
 
 use crate::color::ColorMetadata;
 use crate::fmt::BitDepth;
 use crate::gain_map::EncodedGainMap;
 use crate::metadata::Metadata;
+use std::ops::Range;
 
 // The forms of a file, of which the caller chooses one. The definition `form_of` says what each is.
 #[derive(Clone, Copy)]
@@ -47,6 +48,24 @@ pub struct ItemId(pub u16);
 #[derive(Clone, Copy)]
 pub struct WideItemId(pub u32);
 
+// Ids that follow one another: the first, and how many there are. The one behind them fits in 32 bits too.
+#[derive(Clone, Copy)]
+pub struct Ids {
+    pub first: WideItemId,
+    pub count: u32,
+    ghost fit: { first.0 + count < 4294967296 },
+}
+
+impl Ids {
+    // Their numbers.
+    pub fn range(self) -> Range<u32>
+        ensures start { result.start ≡ self.first.0 }
+        ensures end { result.end ≡ self.first.0 + self.count }
+    {
+        self.first.0..self.first.0 + self.count
+    }
+}
+
 // A property's position in ipco, counted from 1.
 #[derive(Clone, Copy)]
 pub struct PropertyPosition(pub u8);
@@ -71,7 +90,8 @@ pub struct Shape {
     pub tone: bool,
 }
 
-// The samples of a picture's tiles, row by row: the length of each, and their bytes back to back.
+// The samples of a picture's tiles, row by row: the length of each, and their bytes back to back. Those of colour and of alpha are handed
+// side by side, as `Panel` has them: a struct of both would be made for each call and taken apart at once.
 #[derive(Clone, Copy)]
 pub struct Samples<'l, 'b> {
     pub lengths: &'l [u32],
@@ -98,7 +118,7 @@ pub struct Panel<'a> {
     pub gain_map: Option<EncodedGainMap<'a>>,
 }
 
-// Why a panel is refused, each by the number of its check, in whose order the first stands.
+// Why a panel is refused, each by the number of its check. Of several the first counts, in the order of the numbers.
 #[derive(Clone, Copy)]
 pub enum Refusal {
     // Rows or columns are 0 or above 256.
@@ -115,11 +135,13 @@ pub enum Refusal {
     OutputLength = 6,
 }
 
-impl Refusal {
-    // The number.
-    pub fn number(self) -> u8
-        ensures { result ≡ number self }
-    {
-        self as u8
+// A refusal's number.
+impl From<Refusal> for u8 {
+    ghost use Rattle.panel.specs.Outcome.{number};
+
+    ghost from_gives = { λ refusal n. n ≡ number refusal };
+
+    fn from(refusal: Refusal) -> u8 {
+        refusal as u8
     }
 }

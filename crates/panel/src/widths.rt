@@ -1,4 +1,5 @@
-// What the types of a panel's numbers say of them. These functions do nothing: their contracts are what counts.
+// What the types of a panel's numbers say of them. These functions do nothing but look at a number, so that its type is known: their
+// contracts are what counts.
 ghost use Rattle.std.specs.Prelude.{option_map};
 ghost use Rattle.panel.specs.Of.{gain_of, panel_of};
 ghost use Rattle.panel.specs.Widths.{Of, DimsFit, LightFits, GainFits, Fits};
@@ -32,7 +33,8 @@ fn gain_fits(gain: Option<EncodedGainMap>)
 }
 
 impl<'a> Panel<'a> {
-    // Each number has the width that the theorem on equal files asks for.
+    // Each number has the width that the theorem on equal files asks for. It is no invariant, which whoever makes a panel would have to prove;
+    // the calls for a length and for a file promise it again, so that whoever has the contract of one of them has this premise too.
     #[tactic(auto, unfolding(crate::specs::Of::panel_of))]
     pub fn fits(&self)
         ensures { Fits (panel_of self.now) }

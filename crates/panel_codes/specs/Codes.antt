@@ -1,51 +1,21 @@
 -- What a code stands for: a depth, an orientation, yes or no, and a colour by its four codes.
-use Rattle.std.specs.Prelude.{Bool, true, false, List, [], ◌∷◌, ℕ, Option, Some, option_and_then}
-use Rattle.panel.specs.Codes.{named, primaries_named, transfer_named, matrix_named}
+use Rattle.std.specs.Prelude.{Bool, ℕ, Option, Some, option_and_then}
+use Rattle.panel.specs.Codes.{named, primaries_named, transfer_named, matrix_named, depth_code, every_depth, orientation_code, every_orientation, bool_code, every_bool}
 use Rattle.panel.specs.declared.color.Cicp.{Cicp}
 use Rattle.panel.specs.declared.fmt.BitDepth.{BitDepth}
-use Rattle.panel.specs.declared.fmt.BitDepth.TheVariants.{Eight, Ten, Twelve}
 use Rattle.panel.specs.declared.metadata.Orientation.{Orientation}
-use Rattle.panel.specs.declared.metadata.Orientation.TheVariants.{Normal, FlipH, Rotate180, FlipV, Transpose, Rotate90, Transverse, Rotate270}
 
 -- ---- depth
-
-abbrev pub depth_code : BitDepth → ℕ
-depth_code Eight = 0
-depth_code Ten = 1
-depth_code Twelve = 2
-
-unfoldable pub every_depth : List BitDepth
-every_depth = Eight ∷ Ten ∷ Twelve ∷ []
 
 abbrev pub depth_named : ℕ → Option BitDepth
 depth_named n = named depth_code every_depth n
 
 -- ---- orientation
 
-abbrev pub orientation_code : Orientation → ℕ
-orientation_code Normal = 0
-orientation_code FlipH = 1
-orientation_code Rotate180 = 2
-orientation_code FlipV = 3
-orientation_code Transpose = 4
-orientation_code Rotate90 = 5
-orientation_code Transverse = 6
-orientation_code Rotate270 = 7
-
-unfoldable pub every_orientation : List Orientation
-every_orientation = Normal ∷ FlipH ∷ Rotate180 ∷ FlipV ∷ Transpose ∷ Rotate90 ∷ Transverse ∷ Rotate270 ∷ []
-
 abbrev pub orientation_named : ℕ → Option Orientation
 orientation_named n = named orientation_code every_orientation n
 
 -- ---- yes or no
-
-abbrev pub bool_code : Bool → ℕ
-bool_code false = 0
-bool_code true = 1
-
-unfoldable pub every_bool : List Bool
-every_bool = false ∷ true ∷ []
 
 abbrev pub yes_no : ℕ → Option Bool
 yes_no n = named bool_code every_bool n

@@ -28,6 +28,7 @@ pub record Passes (f : Form) (p : Panel) (s : Shape) : Type 0 where
 pub record MadeFrom (f : Form) (p : Panel) (m : FilePlan) : Type 0 where
   pub accepted : refusal f p ≡ 0
   pub long : m.length ≡ length (file f p)
+  pub items : m.items ≡ shape p
   pub laid : Laid f p m.layout
   pub placed : Placed p m.places
   pub count : m.places.count ≤ 127

@@ -18,10 +18,12 @@ use plan_positions::places_of;
 use plan_runs::Places;
 use plan_sizes::sizes_of;
 
-// What a file is made from: its length, its layout, and the places of its properties.
+// What a file is made from: its length, which items it has, its layout, and the places of its properties. The writers are handed what they
+// need of it, beside the panel and the form, which are a caller's choice.
 #[derive(Clone, Copy)]
 pub struct FilePlan {
     pub length: u64,
+    pub items: Items,
     pub layout: Layout,
     pub places: Places,
 }
@@ -42,11 +44,11 @@ fn first_checks(form: FileForm, panel: &Panel) -> Result<Items, Refusal>
     if bad_sums(color, alpha) {
         return Err(Refusal::SampleLengths);
     }
-    let shape = shape_of(panel, color.lengths.len() as u32);
-    if bad_items(form, shape) {
+    let items = Items::new(shape_of(panel, color.lengths.len() as u32));
+    if bad_items(form, items) {
         return Err(Refusal::ItemIds);
     }
-    Ok(Items::new(shape))
+    Ok(items)
 }
 
 // The plan of a panel's file: the checks 1 to 5 in their order, and all numbers of the file.
@@ -65,7 +67,8 @@ pub fn plan_of(form: FileForm, panel: &Panel) -> Result<FilePlan, Refusal>
     }
     Ok(FilePlan {
         length: length as u64,
-        layout: placed(panel, items, sizes),
+        items,
+        layout: placed(panel, sizes),
         places,
     })
 }

@@ -1,15 +1,15 @@
 // The checks 1 to 4 of a panel, each of which answers whether it refuses.
 #![tactic(auto)]
 
-ghost use Rattle.std.specs.Prelude.{◌≡◌, ◌||◌, ◌*◌, ◌≤◌};
-ghost use Rattle.octets.specs.Numbers.{total};
+ghost use Rattle.std.specs.Prelude.{◌≡◌, ◌||◌, ◌*◌};
 ghost use Rattle.panel.specs.Form.{form_of};
 ghost use Rattle.heif.specs.Refusal.{bad_side, bad_grid, bad_counts, bad_id, bad_items};
 ghost use Rattle.heif.specs.Items.{last_id};
 ghost use Rattle.plan_checks.specs.Sums.{bad_samples};
 
-use panel::{FileForm, GridDims, Samples, Shape};
-use plan_items::items::last_id;
+use octets::total;
+use panel::{FileForm, GridDims, Samples};
+use plan_items::items::Items;
 
 // Whether rows or columns are too few or too many.
 fn bad_side(n: u32) -> bool
@@ -33,13 +33,6 @@ pub fn bad_counts(dims: GridDims, colors: usize, alphas: usize) -> bool
     colors != tiles || alphas != tiles
 }
 
-// The sum of lengths. Memory holds too few of them to wrap 128 bits.
-pub fn total(lengths: &[u32]) -> u128
-    ensures { result ≡ total lengths.now }
-{
-    lengths.iter().map(|&n| u128::from(n)).sum()
-}
-
 // Whether the lengths of a picture's samples do not sum to the bytes lent.
 fn bad_samples(samples: Samples) -> bool
     ensures { result ≡ bad_samples samples.entry }
@@ -55,18 +48,16 @@ pub fn bad_sums(color: Samples, alpha: Samples) -> bool
 }
 
 // Whether the last id does not fit in the bytes that the form has for it.
-fn bad_last_id(form: FileForm, s: Shape) -> bool
-    requires { s.tiles ≤ 65536 }
+fn bad_last_id(form: FileForm, s: Items) -> bool
     ensures { result ≡ bad_id (form_of form).id (last_id s) }
 {
     // 32 bits hold the last id of so many tiles.
-    !form.is_wide() && 65535 < last_id(s)
+    !form.is_wide() && 65535 < s.last_id()
 }
 
 // Check 4: the last id does not fit, or the tiles are more than a reference can count.
-pub fn bad_items(form: FileForm, s: Shape) -> bool
-    requires { s.tiles ≤ 65536 }
+pub fn bad_items(form: FileForm, s: Items) -> bool
     ensures { result ≡ bad_items (form_of form) s }
 {
-    bad_last_id(form, s) || 65535 < s.tiles
+    bad_last_id(form, s) || 65535 < s.tiles()
 }

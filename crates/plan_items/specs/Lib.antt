@@ -1,3 +1,2 @@
 pub mod Grid
-pub mod Items
 pub mod Payloads

@@ -20,13 +20,11 @@ pub fn hvcc_uses_rext(hvcc: &[u8]) -> bool
 pub fn gain_uses_rext(gain: &Option<EncodedGainMap>) -> bool
     ensures { result ≡ gain_rext (option_map gain_of gain.now) }
 {
-    match gain {
-        Some(g) => hvcc_uses_rext(g.hvcc),
-        None => false,
-    }
+    gain.is_some_and(|g| hvcc_uses_rext(g.hvcc))
 }
 
-// Whether the gain map's record adds a brand that the colour record did not bring.
+// Whether the gain map's record adds a brand that the colour record did not bring. Here and where ftyp is counted and written the two, and
+// whether there is a tone map, are handed as the definition of ftyp takes them.
 pub fn adds_heix(color: bool, gain: bool) -> bool
     ensures { result ≡ (gain && not color) }
 {

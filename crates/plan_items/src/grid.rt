@@ -41,7 +41,7 @@ impl Grid {
         self.dims
     }
 
-    // How many rows there are behind the first.
+    // How many rows there are behind the first. It and the next are two, as a descriptor has a field for each.
     pub fn further_rows(self) -> u8
         ensures { result ≡ self.rows - 1 }
     {

@@ -1,14 +1,14 @@
-// The items of a file that can be written: how many tiles there are, what else there is, and the id of each.
+// The items of a file: how many tiles there are, what else there is, and the id of each.
 ghost use Rattle.std.specs.Prelude.{◌≡◌, ◌+◌, ◌*◌, ◌≤◌, ◌<◌};
+ghost use Rattle.std.specs.Bool.{then_some};
 ghost use Rattle.heif.specs.Items.{colour_grid, alpha_tile, alpha_grid, exif_id, gain_id, last_id, xmp_id, tone_id};
-ghost use Rattle.plan_items.specs.Items.{Shaped};
 
 use panel::when::when;
-use panel::{Shape, WideItemId};
+use panel::{Ids, Shape, WideItemId};
 use std::marker::Model;
 
-// A shape whose tiles 16 bits can count, and that has a tone map only with a gain map. In a clause it is that shape. The form of the file
-// is handed beside it and not kept in it: which items there are does not hang on it, and the definitions take the two apart.
+// A shape of at most 65,536 tiles, as many as a grid of the sides that check 1 lets pass. In a clause it is that shape. The form of the
+// file is handed beside it and not kept in it: which items there are does not hang on it, and the definitions take the two apart.
 #[derive(Clone, Copy)]
 pub struct Items {
     shape: Shape,
@@ -16,37 +16,32 @@ pub struct Items {
 
 impl Model for Items {
     ghost use Rattle.panel.specs.declared.Shape.{Shape};
-    ghost use Rattle.plan_items.specs.Items.{Shaped};
+    ghost use Rattle.std.specs.Prelude.{◌≤◌};
 
     ghost Value = { Shape };
 
     ghost view = { λ a. a.shape };
 
-    ghost invariant = { λ a. Shaped a.shape };
+    ghost invariant = { λ a. a.shape.tiles ≤ 65536 };
 
     ghost inverse = { λ s. record { shape = s } };
 }
 
+// Each id has a function of its own, as it has a definition: which of them is meant stands in the name, where one function over them all
+// would be told it.
 impl Items {
     // The items of such a shape.
     pub fn new(shape: Shape) -> Items
-        requires { Shaped shape }
+        requires { shape.tiles ≤ 65536 }
         ensures { result ≡ shape }
     {
         Items { shape }
     }
 
-    // What each such shape keeps to. This does nothing: its contract is what counts.
-    pub fn shaped(self)
-        ensures { Shaped self }
-    {
-        let _ = self.shape;
-    }
-
     // How many tiles each picture has.
     pub fn tiles(self) -> u32
         ensures value { result ≡ self.tiles }
-        ensures upper_bound { result ≤ 65535 }
+        ensures upper_bound { result ≤ 65536 }
     {
         self.shape.tiles
     }
@@ -100,7 +95,7 @@ impl Items {
         WideItemId(2 * self.shape.tiles + 3)
     }
 
-    // The gain image's id, where it is present. It and the two behind it stay three, as each promises the id that the definition names.
+    // The gain image's id, where it is present.
     pub fn gain_id(self) -> WideItemId
         ensures { result.0 ≡ gain_id self }
     {
@@ -122,20 +117,68 @@ impl Items {
         WideItemId(2 * self.shape.tiles + 5 + when(self.shape.exif, 1))
     }
 
-    // The last item id, which is how many items there are.
+    // The last item id, which is how many items there are, and which check 4 asks for.
     pub fn last_id(self) -> u32
         ensures value { result ≡ last_id self }
-        ensures upper_bound { result ≤ 131076 }
+        ensures upper_bound { result ≤ 131078 }
     {
-        last_id(self.shape)
+        let s = self.shape;
+        2 * s.tiles + 2 + when(s.exif, 1) + when(s.gain, 2) + when(s.tone, 1)
+    }
+
+    // The Exif's id, where there is Exif.
+    pub fn exif(self) -> Option<WideItemId>
+        ensures { result ≡ then_some self.exif (record { 0 = exif_id self }) }
+    {
+        self.has_exif().then_some(self.exif_id())
+    }
+
+    // The gain image's id, where there is a gain map.
+    pub fn gain(self) -> Option<WideItemId>
+        ensures { result ≡ then_some self.gain (record { 0 = gain_id self }) }
+    {
+        self.has_gain().then_some(self.gain_id())
+    }
+
+    // The tone map's id, where there is one.
+    pub fn tone(self) -> Option<WideItemId>
+        ensures { result ≡ then_some self.tone (record { 0 = tone_id self }) }
+    {
+        self.has_tone().then_some(self.tmap_id())
+    }
+
+    // The colour picture's ids.
+    pub fn color(self) -> PictureIds
+        ensures first { result.tiles.first.0 ≡ 1 }
+        ensures count { result.tiles.count ≡ self.tiles }
+        ensures grid { result.grid.0 ≡ colour_grid self }
+    {
+        let first = WideItemId(1);
+        let count = self.shape.tiles;
+        PictureIds {
+            tiles: Ids { first, count },
+            grid: self.color_grid_id(),
+        }
+    }
+
+    // The alpha picture's ids.
+    pub fn alpha(self) -> PictureIds
+        ensures first { result.tiles.first.0 ≡ alpha_tile self }
+        ensures count { result.tiles.count ≡ self.tiles }
+        ensures grid { result.grid.0 ≡ alpha_grid self }
+    {
+        let first = self.alpha_tile_base();
+        let count = self.shape.tiles;
+        PictureIds {
+            tiles: Ids { first, count },
+            grid: self.alpha_grid_id(),
+        }
     }
 }
 
-// The last item id of a shape, which check 4 asks for.
-pub fn last_id(s: Shape) -> u32
-    requires { s.tiles ≤ 65536 }
-    ensures value { result ≡ last_id s }
-    ensures upper_bound { result ≤ 131078 }
-{
-    2 * s.tiles + 2 + when(s.exif, 1) + when(s.gain, 2) + when(s.tone, 1)
+// The ids of a picture's items.
+#[derive(Clone, Copy)]
+pub struct PictureIds {
+    pub tiles: Ids,
+    pub grid: WideItemId,
 }

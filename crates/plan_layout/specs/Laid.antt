@@ -34,7 +34,6 @@ payloads_from at p =
     }
 
 pub record Laid (f : Form) (p : Panel) (y : Layout) : Type 0 where
-  pub items : y.items ≡ shape p
   pub ftyp : y.ftyp ≡ 8 + length (head p).body
   pub iloc : y.iloc ≡ 8 + length (iloc f (locations (data_at f p) p)).body
   pub iinf : y.iinf ≡ 8 + length (iinf f (shape p)).body
@@ -52,4 +51,6 @@ pub record Laid (f : Form) (p : Panel) (y : Layout) : Type 0 where
 -- the boxes make a file, and mdat holds the samples of the panel
 pub record Within (z : Sizes) (p : LentPanel) : Type 0 where
   pub file : z.ftyp + z.meta + z.mdat ≤ 4294967295
+  pub iprp : z.iprp ≤ z.meta
+  pub ipco : z.ipco ≤ z.iprp
   pub samples : 8 + length p.color.samples.bytes.now + length p.alpha.samples.bytes.now ≤ z.mdat

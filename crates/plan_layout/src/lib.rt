@@ -3,7 +3,7 @@
 
 ghost use Rattle.std.specs.Prelude.{◌≡◌, ◌+◌, ◌≤◌, option_map, length};
 ghost use Rattle.panel.specs.Of.{panel_of, gain_of};
-ghost use Rattle.heif.specs.Items.{shape, Even};
+ghost use Rattle.heif.specs.Items.{Even};
 ghost use Rattle.heif.specs.File.{size};
 ghost use Rattle.heif.specs.Mdat.{gain_data_size, mdat_size};
 ghost use Rattle.plan_items.specs.Payloads.{payload_lengths};
@@ -14,16 +14,15 @@ use panel::Panel;
 use panel::gain_map::EncodedGainMap;
 use plan_items::brands::{gain_uses_rext, hvcc_uses_rext};
 use plan_items::grid::descriptor_length;
-use plan_items::items::Items;
 use plan_items::payloads::{PayloadLengths, Payloads};
-use plan_sizes::exif_size;
+use plan_sizes::part_size;
 use plan_sizes::sizes::Sizes;
 
-// What a file is laid out by: which items it has, the whole size of each box, where the payloads lie, and whether the records are of the
-// range extensions' profile.
+// What a file is laid out by: the whole size of each box, where the payloads lie, and whether the records are of the range extensions'
+// profile. The sizes stand here in 32 bits, one beside the other as in `Sizes`: a struct over the type of the number could not hold what
+// `Sizes` holds of its own.
 #[derive(Clone, Copy)]
 pub struct Layout {
-    pub items: Items,
     pub ftyp: u32,
     pub meta: u32,
     pub iloc: u32,
@@ -47,11 +46,11 @@ pub fn file_size(z: Sizes) -> u128
     z.ftyp as u128 + z.meta + z.mdat
 }
 
-// A length in 32 bits; of a part that is too long for a file it is the greatest.
+// A length in 32 bits. Of a part that is too long for a file, and has no such length, the contract says nothing.
 fn capped(n: usize) -> u32
     ensures { n ≤ 4294967295 → result ≡ n }
 {
-    n.min(4294967295) as u32
+    u32::try_from(n).unwrap_or(u32::MAX)
 }
 
 // How many bytes the gain map's payloads have, 0 where there is none.
@@ -85,21 +84,20 @@ fn payloads_of(panel: &Panel, color: u32) -> Payloads
         color,
         alpha,
         other,
-        exif: capped(exif_size(panel.metadata.exif)),
+        exif: capped(part_size(panel.metadata.exif)),
         gain: payload_lengths(&panel.gain_map),
     }
 }
 
-// The layout that sizes make, of a panel with these items.
+// The layout that sizes make of a panel.
 #[tactic(auto, unfolding(panel::specs::Of::panel_of))]
-pub fn placed(panel: &Panel, items: Items, z: Sizes) -> Layout
+pub fn placed(panel: &Panel, z: Sizes) -> Layout
     requires { Within z panel.now }
-    ensures { (f : _) → Even (panel_of panel.now) → items ≡ shape (panel_of panel.now) → Sized f (panel_of panel.now) z → Laid f (panel_of panel.now) result }
+    ensures { (f : _) → Even (panel_of panel.now) → Sized f (panel_of panel.now) z → Laid f (panel_of panel.now) result }
 {
     let mdat = z.ftyp + z.meta as u32;
     let color_data = mdat + 8;
     Layout {
-        items,
         ftyp: z.ftyp,
         meta: z.meta as u32,
         iloc: z.iloc,

@@ -11,13 +11,14 @@ use Rattle.octets.specs.Numbers.{◌‖◌}
 use Rattle.octets.proofs.Lists.{flat_map_one}
 use Rattle.plan_runs.specs.Runs.{Span, places}
 use Rattle.plan_runs.specs.Lists.{marked, associated, listed}
+use Rattle.plan_runs.specs.declared.lists.Associated.{Associated}
 use Rattle.plan_runs.proofs.Runs.{length-places, length-essential}
 
 -- a last run, and one that others follow
-pub listed_one : (a : Span × Bool) → listed (a ∷ []) ≡ associated a
+pub listed_one : (a : Associated) → listed (a ∷ []) ≡ associated a
 listed_one a = flat_map_one associated a
 
-pub listed_more : (a b : Span × Bool) (l : List (Span × Bool)) → listed (a ∷ b ∷ l) ≡ associated a ‖ listed (b ∷ l)
+pub listed_more : (a b : Associated) (l : List Associated) → listed (a ∷ b ∷ l) ≡ associated a ‖ listed (b ∷ l)
 unfolding flat_map
 listed_more a b l = refl
 
@@ -25,20 +26,20 @@ length-marked : (e : Bool) (r : Span) → length (marked e (places r)) ≡ r.cou
 length-marked true r = length-essential r
 length-marked false r = length-places r
 
-pub length-associated : (a : Span × Bool) → length (associated a) ≡ a.0.count
-length-associated a = length-marked a.1 a.0
+pub length-associated : (a : Associated) → length (associated a) ≡ a.run.count
+length-associated a = length-marked a.essential a.run
 
 -- behind the last run nothing is left
-pub listed_end : (l : List (Span × Bool)) {i : ℕ} → length l ≤ i → listed (drop i l) ≡ []
+pub listed_end : (l : List Associated) {i : ℕ} → length l ≤ i → listed (drop i l) ≡ []
 unfolding flat_map
 listed_end l {i} h = at_drop_all (flat_map associated) l i h
 
-module _ (l : List (Span × Bool)) {i : ℕ} {a : Span × Bool} (h : i < length l) (e : a ≡ get_or l i a) where
+module _ (l : List Associated) {i : ℕ} {a : Associated} (h : i < length l) (e : a ≡ get_or l i a) where
   -- before a run, that run and those behind it are left
   pub listed-drop : listed (drop i l) ≡ associated a ‖ listed (drop (i + 1) l)
   unfolding flat_map
-  listed-drop = rw (add-one, drop-cons l i a) (ap (λ (x : Span × Bool). associated x ‖ listed (drop (suc i) l)) (sym e))
+  listed-drop = rw (add-one, drop-cons l i a) (ap (λ (x : Associated). associated x ‖ listed (drop (suc i) l)) (sym e))
 
   -- and how many
-  pub length-listed-drop : length (listed (drop i l)) ≡ a.0.count + length (listed (drop (i + 1) l))
+  pub length-listed-drop : length (listed (drop i l)) ≡ a.run.count + length (listed (drop (i + 1) l))
   length-listed-drop = ap length listed-drop ∙ length-append (associated a) (listed (drop (i + 1) l)) ∙ ap (λ (n : ℕ). n + length (listed (drop (i + 1) l))) (length-associated a)

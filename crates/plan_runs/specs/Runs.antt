@@ -11,9 +11,9 @@ pub record Span : Type 0 where
 abbrev pub places : Span → List ℕ
 places r = ids_from r.first r.count
 
--- each position leaves the highest of 8 bits free, as does the one behind them
-abbrev pub Narrow : Span → Type 0
-Narrow r = r.first + r.count ≤ 127
+-- each position leaves the highest of 8 bits free for a mark, as does the one behind them
+abbrev pub Markable : Span → Type 0
+Markable r = r.first + r.count ≤ 127
 
 -- so many positions from `first` on
 abbrev pub run_at : ℕ → ℕ → Span

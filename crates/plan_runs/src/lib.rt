@@ -23,13 +23,13 @@ pub struct Run {
 }
 
 impl Model for Run {
-    ghost use Rattle.plan_runs.specs.Runs.{Span, Narrow, run_at};
+    ghost use Rattle.plan_runs.specs.Runs.{Span, Markable, run_at};
 
     ghost Value = { Span };
 
     ghost view = { λ r. run_at r.first.0 r.count };
 
-    ghost invariant = { λ r. Narrow (run_at r.first.0 r.count) };
+    ghost invariant = { λ r. Markable (run_at r.first.0 r.count) };
 
     ghost inverse = { λ s. record { first = record { 0 = s.first }; count = s.count } };
 }
@@ -60,7 +60,8 @@ impl Run {
     }
 }
 
-// The next free position.
+// The next free position. It runs by value through the functions that place properties, each of which hands it back raised, and is lent to
+// the gain map's: a rule of the project.
 #[derive(Clone, Copy)]
 pub struct Positions {
     pub next: PropertyPosition,

@@ -1,97 +1,120 @@
 // What each item is associated with: runs in the order in which ipma names them, each essential or not.
 #![tactic(auto, using(crate::proofs::Listed::listed_one, crate::proofs::Listed::listed_more), unfolding(crate::specs::Roles::its_of))]
 
-ghost use Rattle.std.specs.Prelude.{◌≡◌, ◌*◌, ◌≤◌, length};
+ghost use Rattle.std.specs.Prelude.{◌≡◌, true, false, ◌*◌, ◌≤◌, length};
 ghost use Rattle.heif.specs.Ipma.{colour_tile_list, colour_grid_list, alpha_tile_list, alpha_grid_list, image_list, tone_list};
 ghost use Rattle.plan_runs.specs.Roles.{its_of};
 ghost use Rattle.plan_runs.specs.Lists.{listed};
 
 use crate::{Places, Run};
 
+// Positions that an item is associated with, and whether its associations are essential.
+#[derive(Clone, Copy)]
+pub struct Associated {
+    pub run: Run,
+    pub essential: bool,
+}
+
+// Positions whose associations are essential. It and `plain` are two, so that a list names what ipma says of each of its runs.
+fn essential(run: Run) -> Associated
+    ensures { result ≡ record { run = run; essential = true } }
+{
+    Associated {
+        run,
+        essential: true,
+    }
+}
+
+// Positions whose associations are not.
+fn plain(run: Run) -> Associated
+    ensures { result ≡ record { run = run; essential = false } }
+{
+    Associated {
+        run,
+        essential: false,
+    }
+}
+
 // A colour tile: hvcC, ispe and colr, all essential.
-pub fn color_tile_list(y: &Places) -> [(Run, bool); 3]
+pub fn color_tile_list(y: &Places) -> [Associated; 3]
     ensures { listed result ≡ colour_tile_list (its_of y.now) }
 {
     [
-        (y.color.hvcc, true),
-        (y.color.ispe_tile, true),
-        (y.color.colr, true),
+        essential(y.color.hvcc),
+        essential(y.color.ispe_tile),
+        essential(y.color.colr),
     ]
 }
 
 // The colour grid: ispe, colr, which is essential, pixi, what is there of the second colr and clli, and the transforms, which come last and
 // are essential.
-pub fn color_grid_list(y: &Places) -> [(Run, bool); 7]
+pub fn color_grid_list(y: &Places) -> [Associated; 7]
     ensures { listed result ≡ colour_grid_list (its_of y.now) }
 {
     let color = &y.color;
     let options = &y.options;
     [
-        (color.ispe_full, false),
-        (color.colr, true),
-        (color.pixi, false),
-        (options.colr, false),
-        (options.clli, false),
-        (options.irot, true),
-        (options.imir, true),
+        plain(color.ispe_full),
+        essential(color.colr),
+        plain(color.pixi),
+        plain(options.colr),
+        plain(options.clli),
+        essential(options.irot),
+        essential(options.imir),
     ]
 }
 
 // An alpha tile: hvcC and ispe, both essential.
-pub fn alpha_tile_list(y: &Places) -> [(Run, bool); 2]
+pub fn alpha_tile_list(y: &Places) -> [Associated; 2]
     ensures { listed result ≡ alpha_tile_list (its_of y.now) }
 {
-    [(y.alpha.hvcc, true), (y.color.ispe_tile, true)]
+    [essential(y.alpha.hvcc), essential(y.color.ispe_tile)]
 }
 
 // The alpha grid: ispe, pixi, auxC, and of what may be absent the transforms.
-pub fn alpha_grid_list(y: &Places) -> [(Run, bool); 5]
+pub fn alpha_grid_list(y: &Places) -> [Associated; 5]
     ensures { listed result ≡ alpha_grid_list (its_of y.now) }
 {
     [
-        (y.color.ispe_full, false),
-        (y.alpha.pixi, false),
-        (y.alpha.auxc, false),
-        (y.options.irot, true),
-        (y.options.imir, true),
+        plain(y.color.ispe_full),
+        plain(y.alpha.pixi),
+        plain(y.alpha.auxc),
+        essential(y.options.irot),
+        essential(y.options.imir),
     ]
 }
 
 // The gain image: hvcC first, which is essential, and the transforms.
-pub fn image_list(y: &Places) -> [(Run, bool); 7]
+pub fn image_list(y: &Places) -> [Associated; 7]
     ensures { listed result ≡ image_list (its_of y.now) }
 {
     [
-        (y.image.hvcc, true),
-        (y.image.ispe, false),
-        (y.image.pixi, false),
-        (y.image.auxc, false),
-        (y.image.colr, false),
-        (y.options.irot, true),
-        (y.options.imir, true),
+        essential(y.image.hvcc),
+        plain(y.image.ispe),
+        plain(y.image.pixi),
+        plain(y.image.auxc),
+        plain(y.image.colr),
+        essential(y.options.irot),
+        essential(y.options.imir),
     ]
 }
 
 // The tone map: none is essential.
-pub fn tone_list(y: &Places) -> [(Run, bool); 3]
+pub fn tone_list(y: &Places) -> [Associated; 3]
     ensures { listed result ≡ tone_list (its_of y.now) }
 {
-    [
-        (y.tone.ispe, false),
-        (y.tone.pixi, false),
-        (y.tone.colr, false),
-    ]
+    [plain(y.tone.ispe), plain(y.tone.pixi), plain(y.tone.colr)]
 }
 
-// How many associations a list has. In 128 bits no sum wraps; a `for`, since what a run's count is bounded by is told by the call, which a
-// chain does not hand on to the sum's bound.
-pub fn count(list: &[(Run, bool)]) -> u128
+// How many associations a list has. In 128 bits no sum wraps. A `for`: over `map` and `sum` the bound did not close, as a run's own bound is
+// told by the call that asks for its count, and the list says nothing of it.
+pub fn count(list: &[Associated]) -> u128
     ensures value { result ≡ length (listed list.now) }
     ensures upper_bound { result ≤ 127 * length list.now }
 {
     let mut n = 0;
-    for (run, _) in list {
-        n += u128::from(run.count());
+    for associated in list {
+        n += u128::from(associated.run.count());
     }
     n
 }

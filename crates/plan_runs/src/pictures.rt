@@ -4,7 +4,8 @@ ghost use Rattle.plan_runs.specs.Pictures.{colour_at, alpha_at, options_at};
 
 use crate::{Positions, Run};
 
-// The colour picture's properties.
+// The colour picture's properties. Each struct of places has its own roles for fields, so that none is taken for another, though the gain
+// image has as many and the tone map as many as alpha.
 #[derive(Clone, Copy)]
 pub struct ColorPlaces {
     pub hvcc: Run,

@@ -1,25 +1,16 @@
 // The size of ipco: its head and one for each property, and what the properties hold beside these.
 ghost use Rattle.std.specs.Prelude.{◌≡◌, cond, is_some, ◌+◌, ◌*◌, ◌^◌, ◌<◌, ◌≤◌, option_map, option_copied};
 ghost use Rattle.panel.specs.Of.{panel_of, colour_of, gain_of};
-ghost use Rattle.heif.specs.Colr.{profile_size, first_colr_size, second_colr_count, second_colr_size, alternates_count, alternates_size};
+ghost use Rattle.heif.specs.Colr.{first_colr_size, second_colr_count, second_colr_size, alternates_count, alternates_size};
 ghost use Rattle.heif.specs.Ipco.{gain_property_count, tone_properties_size, gain_properties_size, ipco_size};
 ghost use Rattle.plan_positions.specs.Placed.{Placed};
 
+use crate::part_size;
 use panel::Panel;
 use panel::color::ColorMetadata;
 use panel::gain_map::EncodedGainMap;
 use panel::when::when;
 use plan_runs::Places;
-
-// What a profile holds, where there is one.
-fn profile_bytes(icc: Option<&[u8]>) -> usize
-    ensures { 8 * cond (is_some icc.entry) 1 0 + result ≡ profile_size (option_copied icc.entry) }
-{
-    match icc {
-        Some(icc) => 4 + icc.len(),
-        None => 0,
-    }
-}
 
 // The first colr of the colour picture: a profile where no code points are stated.
 fn first_colr_bytes(color: &ColorMetadata) -> usize
@@ -28,18 +19,15 @@ fn first_colr_bytes(color: &ColorMetadata) -> usize
     if color.cicp.is_some() || color.icc.is_none() {
         11
     } else {
-        profile_bytes(color.icc)
+        part_size(color.icc)
     }
 }
 
-// The second colr: a profile beside code points.
+// What the second colr holds beside its head: a profile beside code points.
 fn second_colr_bytes(color: &ColorMetadata) -> usize
     ensures { let icc = option_copied color.now.icc in 8 * second_colr_count color.now.cicp icc + result ≡ second_colr_size color.now.cicp icc }
 {
-    match color.cicp {
-        Some(_) => profile_bytes(color.icc),
-        None => 0,
-    }
+    part_size(color.cicp.and(color.icc))
 }
 
 // The alternate colour: what it states of code points and a profile.
@@ -48,7 +36,7 @@ fn alternates_bytes(alternate: &Option<ColorMetadata>) -> u128
     ensures upper_bound { result < 2 ^ 65 }
 {
     match alternate {
-        Some(color) => { when(color.cicp.is_some(), 11) as u128 + profile_bytes(color.icc) as u128 }
+        Some(color) => { when(color.cicp.is_some(), 11) as u128 + part_size(color.icc) as u128 }
         None => 0,
     }
 }
@@ -79,6 +67,7 @@ fn gain_bytes(gain: &Option<EncodedGainMap>) -> u128
 #[tactic(auto, unfolding(panel::specs::Of::panel_of))]
 pub(crate) fn ipco_size(panel: &Panel, places: &Places) -> u128
     ensures value { Placed (panel_of panel.now) places.now → result ≡ 8 + ipco_size (panel_of panel.now) }
+    ensures near { result ≤ ipco_size (panel_of panel.now) + 4000 }
     ensures upper_bound { result < 2 ^ 68 }
 {
     let heads = 8 + 8 * places.count as u128;

@@ -9,14 +9,14 @@ use panel::FileForm;
 use panel::when::when;
 use plan_items::form::ids_bytes;
 use plan_items::items::Items;
+use plan_runs::Places;
 use plan_runs::lists::{
-    alpha_grid_list, alpha_tile_list, color_grid_list, color_tile_list, count, image_list,
-    tone_list,
+    Associated, alpha_grid_list, alpha_tile_list, color_grid_list, color_tile_list, count,
+    image_list, tone_list,
 };
-use plan_runs::{Places, Run};
 
 // The entry of an item that is associated with these: an id, a count, and a byte for each.
-fn entry_size(form: FileForm, list: &[(Run, bool)]) -> u32
+fn entry_size(form: FileForm, list: &[Associated]) -> u32
     requires { length list.now ≤ 7 }
     ensures value { result ≡ association_size (form_of form) (length (listed list.now)) }
     ensures upper_bound { result ≤ 894 }
@@ -25,12 +25,12 @@ fn entry_size(form: FileForm, list: &[(Run, bool)]) -> u32
 }
 
 // The entries of a picture: those of its n tiles, and its grid's.
-fn picture_size(form: FileForm, n: u32, tile: &[(Run, bool)], grid: &[(Run, bool)]) -> u32
-    requires few { n ≤ 65535 }
+fn picture_size(form: FileForm, n: u32, tile: &[Associated], grid: &[Associated]) -> u32
+    requires few { n ≤ 65536 }
     requires few_of_tile { length tile.now ≤ 7 }
     requires few_of_grid { length grid.now ≤ 7 }
     ensures value { result ≡ association_size (form_of form) (length (listed tile.now)) * n + association_size (form_of form) (length (listed grid.now)) }
-    ensures upper_bound { result ≤ 58600000 }
+    ensures upper_bound { result ≤ 58700000 }
 {
     entry_size(form, tile) * n + entry_size(form, grid)
 }

@@ -9,15 +9,17 @@ pub mod ipco;
 pub mod ipma;
 pub mod sizes;
 
-ghost use Rattle.std.specs.Prelude.{◌≡◌, ◌+◌, ◌^◌, ◌<◌, ◌≤◌, option_map, option_copied};
+ghost use Rattle.std.specs.Prelude.{◌≡◌, cond, ◌+◌, ◌^◌, ◌<◌, ◌≤◌, is_some, option_map, option_copied};
 ghost use Rattle.panel.specs.Of.{panel_of, gain_of};
 ghost use Rattle.panel.specs.Form.{form_of};
+ghost use Rattle.panel.specs.Parts.{long};
 ghost use Rattle.heif.specs.Items.{shape};
 ghost use Rattle.heif.specs.Ftyp.{ftyp_size, head_size};
 ghost use Rattle.heif.specs.Iloc.{iloc_size};
 ghost use Rattle.heif.specs.Iinf.{iinf_size};
 ghost use Rattle.heif.specs.Iref.{iref_size};
-ghost use Rattle.heif.specs.Mdat.{exif_size, gain_data_size, mdat_size};
+ghost use Rattle.heif.specs.Ipco.{ipco_size};
+ghost use Rattle.heif.specs.Mdat.{gain_data_size, mdat_size};
 ghost use Rattle.plan_positions.specs.Placed.{Placed};
 ghost use Rattle.plan_sizes.specs.Sized.{Sized};
 
@@ -42,7 +44,8 @@ fn ftyp_size(color: bool, gain: bool, tone: bool) -> u32
 
 // iloc, the whole box: an entry of an id and 14 bytes for each item.
 fn iloc_size(form: FileForm, s: Items) -> u32
-    ensures { result ≡ 8 + iloc_size (form_of form) s }
+    ensures value { result ≡ 8 + iloc_size (form_of form) s }
+    ensures upper_bound { result ≤ 2500000 }
 {
     let n = s.last_id();
     14 + 14 * n + count_bytes(form) + ids_bytes(form, n)
@@ -50,7 +53,8 @@ fn iloc_size(form: FileForm, s: Items) -> u32
 
 // iinf, the whole box: an entry of an id and 19 bytes for each item, and the content type of XMP.
 fn iinf_size(form: FileForm, s: Items) -> u32
-    ensures { result ≡ 8 + iinf_size (form_of form) s }
+    ensures value { result ≡ 8 + iinf_size (form_of form) s }
+    ensures upper_bound { result ≤ 3200000 }
 {
     let n = s.last_id();
     12 + 19 * n + count_bytes(form) + ids_bytes(form, n) + when(s.has_gain(), 20)
@@ -58,7 +62,8 @@ fn iinf_size(form: FileForm, s: Items) -> u32
 
 // iref, the whole box: references of an id and 10 bytes, and an id for each item referred to.
 fn iref_size(form: FileForm, s: Items) -> u32
-    ensures { result ≡ 8 + iref_size (form_of form) s }
+    ensures value { result ≡ 8 + iref_size (form_of form) s }
+    ensures upper_bound { result ≤ 600000 }
 {
     let one = 10 + ids_bytes(form, 2);
     let two = 10 + ids_bytes(form, 3);
@@ -70,12 +75,12 @@ fn iref_size(form: FileForm, s: Items) -> u32
         + when(s.has_tone(), two)
 }
 
-// The Exif's payload, where there is Exif: the offset of its TIFF header and its bytes.
-pub fn exif_size(exif: Option<&[u8]>) -> usize
-    ensures { result ≡ exif_size (option_copied exif.entry) }
+// Four bytes and those of a part, where there is one: the offset of the TIFF header and the Exif, or the type and the profile of a colr.
+pub fn part_size(part: Option<&[u8]>) -> usize
+    ensures { result ≡ cond (is_some part.entry) 4 0 + long (option_copied part.entry) }
 {
-    match exif {
-        Some(exif) => 4 + exif.len(),
+    match part {
+        Some(part) => 4 + part.len(),
         None => 0,
     }
 }
@@ -102,14 +107,19 @@ fn mdat_size(panel: &Panel) -> u128
 {
     8 + panel.color.samples.bytes.len() as u128
         + panel.alpha.samples.bytes.len() as u128
-        + exif_size(panel.metadata.exif) as u128
+        + part_size(panel.metadata.exif) as u128
         + gain_data_size(&panel.gain_map)
 }
 
-// The size of every box, those of ipco and ipma by the places of the properties.
+// The size of every box, those of ipco and ipma by the places of the properties. Of whichever items and places, `meta` says how large meta is
+// at most and `mdat` how large mdat is.
 #[tactic(auto, unfolding(panel::specs::Of::panel_of))]
 pub fn sizes_of(form: FileForm, panel: &Panel, s: Items, places: &Places) -> Sizes
-    ensures { s ≡ shape (panel_of panel.now) → Placed (panel_of panel.now) places.now → Sized (form_of form) (panel_of panel.now) result }
+    ensures sized { s ≡ shape (panel_of panel.now) → Placed (panel_of panel.now) places.now → Sized (form_of form) (panel_of panel.now) result }
+    ensures ipco { result.ipco ≤ result.iprp }
+    ensures iprp { result.iprp ≤ result.meta }
+    ensures meta { result.meta ≤ ipco_size (panel_of panel.now) + 130000000 }
+    ensures mdat { result.mdat ≡ 8 + mdat_size (panel_of panel.now) }
 {
     let color = hvcc_uses_rext(panel.color.hvcc);
     let gain = gain_uses_rext(&panel.gain_map);

@@ -1,7 +1,8 @@
 // The sizes of a file's boxes.
-ghost use Rattle.std.specs.Prelude.{◌+◌, ◌^◌, ◌<◌, ◌≤◌};
+ghost use Rattle.std.specs.Prelude.{◌+◌, ◌^◌, ◌<◌};
 
-// The whole size of each box. iprp holds ipco, and meta holds iprp; what is counted in 128 bits is far below what these hold.
+// The whole size of each box; what is counted in 128 bits is far below what 128 bits hold. That they are the boxes of a panel in a form is
+// said by `Sized`; a struct that held it would have to hold the panel and the form too.
 #[derive(Clone, Copy)]
 pub struct Sizes {
     pub ftyp: u32,
@@ -14,7 +15,5 @@ pub struct Sizes {
     pub iprp: u128,
     pub meta: u128,
     pub mdat: u128,
-    ghost ipco_in_iprp: { ipco ≤ iprp },
-    ghost iprp_in_meta: { iprp ≤ meta },
     ghost small: { meta + mdat < 2 ^ 100 },
 }

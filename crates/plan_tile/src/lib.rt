@@ -7,10 +7,11 @@ ghost use Rattle.plan_tile.specs.Lookup.{names_colour, names_alpha, bad_lists, t
 ghost use Rattle.plan_tile.specs.Lookup.{span_of, tile_span, span_address};
 ghost use Rattle.plan_tile.specs.Told.{number, lent, refusal_of, span_told};
 
+use octets::total;
 use panel::{ItemId, Samples};
-use plan_checks::{bad_sums, total};
+use plan_checks::bad_sums;
 
-// Why the lookup refuses an id, each by the number of its check, in whose order the first stands.
+// Why the lookup refuses an id, each by the number of its check. Of several the first counts, in the order of the numbers.
 #[derive(Clone, Copy)]
 pub enum TileRefusal {
     // The lists of lengths differ in count, or are empty.
@@ -23,12 +24,12 @@ pub enum TileRefusal {
     NoTile = 7,
 }
 
-impl TileRefusal {
-    // The number.
-    pub fn number(self) -> u8
-        ensures { result ≡ number self }
-    {
-        self as u8
+// A refusal's number.
+impl From<TileRefusal> for u8 {
+    ghost from_gives = { λ refusal n. n ≡ number refusal };
+
+    fn from(refusal: TileRefusal) -> u8 {
+        refusal as u8
     }
 }
 

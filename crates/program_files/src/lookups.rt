@@ -7,7 +7,7 @@ use std::io;
 fn print_tile(rt: &impl Print, id: u16, color: Samples, alpha: Samples) -> io::Result<()> {
     let number = match tile_span(ItemId(id), color, alpha) {
         Ok(_) => 0,
-        Err(refusal) => refusal.number(),
+        Err(refusal) => u8::from(refusal),
     };
     print!(rt; "{number} ")?;
     rt.write_all(tile(ItemId(id), color, alpha))?;

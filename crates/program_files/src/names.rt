@@ -1,4 +1,5 @@
-// Panel P with each value of each enum, named as a caller names it.
+// Panel P with each value of each enum, named as a caller names it. The lists are this test's own and not those that the codes of a sheet
+// are looked up in (`every` of panel), so that a value left out there is still written here.
 use panel::color::{Cicp, ColorMetadata, MatrixCoefficients, Primaries, TransferFunction};
 use panel::fmt::BitDepth;
 use panel::metadata::{Metadata, Orientation};

@@ -34,7 +34,7 @@ pub fn print_sheet_file(rt: &impl Print, sheet: &[u8]) -> io::Result<Result<u64,
     let answer = sheet_file(sheet, &mut room);
     match answer {
         Ok(size) => rt.write_all(&room[..size as usize])?,
-        Err(refusal) => println!(rt; "refused {}", refusal.number())?,
+        Err(refusal) => println!(rt; "refused {}", u8::from(refusal))?,
     }
     Ok(answer)
 }
@@ -43,7 +43,7 @@ pub fn print_sheet_file(rt: &impl Print, sheet: &[u8]) -> io::Result<Result<u64,
 pub fn say(rt: &impl Eprint, printed: io::Result<Result<u64, SheetRefusal>>) -> io::Result<()> {
     match printed {
         Ok(Ok(size)) => eprintln!(rt; "written {size} bytes"),
-        Ok(Err(refusal)) => eprintln!(rt; "refused {}: {}", refusal.number(), words_of(refusal)),
+        Ok(Err(refusal)) => eprintln!(rt; "refused {}: {}", u8::from(refusal), words_of(refusal)),
         Err(_) => say_failed(rt, "not all of it could be written"),
     }
 }

@@ -18,8 +18,8 @@ pub(crate) fn read_color<'a>(
     ensures { Reads (colour cicp icc) colour_of reader.old result reader.new }
 {
     Ok(ColorMetadata {
-        cicp: if cicp { Some(reader.cicp()?) } else { None },
-        icc: if icc { Some(reader.string()?) } else { None },
+        cicp: reader.optional(cicp, SheetReader::cicp)?,
+        icc: reader.optional(icc, SheetReader::string)?,
     })
 }
 

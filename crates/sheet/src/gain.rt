@@ -1,7 +1,5 @@
 // The gain map, with its tone map and its alternate colour.
-ghost use Rattle.std.specs.Prelude.{option_map};
 ghost use Rattle.panel.specs.Of.{gain_of};
-ghost use Rattle.sheet_fields.specs.Fields.{optional};
 ghost use Rattle.sheet_fields.specs.Reads.{Reads};
 ghost use Rattle.sheet.specs.Sheet.{image, gain};
 
@@ -20,7 +18,7 @@ fn read_image<'a>(reader: &mut SheetReader<'a>) -> Result<EncodedGainMap<'a>, Sh
         sample: reader.string()?,
         width: reader.u32()?,
         height: reader.u32()?,
-        bit_depth: reader.depth()?,
+        bit_depth: reader.code()?,
         cicp: reader.cicp()?,
         xmp: reader.string()?,
         tmap: None,
@@ -28,25 +26,18 @@ fn read_image<'a>(reader: &mut SheetReader<'a>) -> Result<EncodedGainMap<'a>, Sh
     })
 }
 
-// The gain map, if its bit stands, with its tone map and its alternate colour if theirs do.
+// The gain map, with its tone map and its alternate colour if their bits stand.
 #[tactic(auto, unfolding(crate::specs::Sheet::gain, sheet_fields::specs::Fields::optional))]
 pub(crate) fn read_gain<'a>(
     reader: &mut SheetReader<'a>,
     map: Map,
-) -> Result<Option<EncodedGainMap<'a>>, SheetRefusal>
-    ensures { Reads (optional map.gain_map (gain map)) (option_map gain_of) reader.old result reader.new }
+) -> Result<EncodedGainMap<'a>, SheetRefusal>
+    ensures { Reads (gain map) gain_of reader.old result reader.new }
 {
-    if !map.gain_map {
-        return Ok(None);
-    }
     let image = read_image(reader)?;
-    Ok(Some(EncodedGainMap {
-        tmap: if map.tmap {
-            Some(reader.string()?)
-        } else {
-            None
-        },
+    Ok(EncodedGainMap {
+        tmap: reader.optional(map.tmap, SheetReader::string)?,
         alternate_color: read_alternate(reader, map)?,
         ..image
-    }))
+    })
 }

@@ -9,9 +9,9 @@ pub mod metadata;
 pub mod picture;
 
 ghost use Rattle.std.specs.Prelude.{◌*◌, ◌≤◌, length};
-ghost use Rattle.panel.specs.Of.{panel_of};
-ghost use Rattle.sheet_fields.specs.Reads.{ReadsAll};
-ghost use Rattle.sheet.specs.Sheet.{fields};
+ghost use Rattle.panel.specs.Of.{panel_of, gain_of};
+ghost use Rattle.sheet_fields.specs.Reads.{Reads, ReadsAll};
+ghost use Rattle.sheet.specs.Sheet.{gain, fields};
 
 use crate::color::read_color;
 use crate::gain::read_gain;
@@ -22,27 +22,28 @@ use sheet_fields::{SheetReader, SheetRefusal};
 use sheet_frame::map::read_map;
 use sheet_frame::{at_end, read_dims};
 
-// The panel of a sheet: its byte parts are slices of the sheet, and its lengths the fronts of two lists that have an entry for every four
-// bytes of the sheet.
-#[tactic(auto, unfolding(crate::specs::Sheet::fields, panel::specs::Of::panel_of))]
-pub fn read_sheet<'a>(
-    sheet: &'a [u8],
-    color: &'a mut [u32],
-    alpha: &'a mut [u32],
-) -> Result<Panel<'a>, SheetRefusal>
-    requires color { length sheet.now ≤ 4 * length color.old }
-    requires alpha { length sheet.now ≤ 4 * length alpha.old }
+// The panel of a sheet: its byte parts are slices of the sheet, and its lengths parts of a list that has an entry for every four bytes of
+// the sheet.
+#[tactic(auto, unfolding(crate::specs::Sheet::fields, sheet_fields::specs::Fields::optional, panel::specs::Of::panel_of))]
+pub fn read_sheet<'a>(sheet: &'a [u8], room: &'a mut [u32]) -> Result<Panel<'a>, SheetRefusal>
+    requires { length sheet.now ≤ 4 * length room.old }
     ensures { ReadsAll fields panel_of sheet.now result }
 {
     let mut reader = SheetReader { left: sheet };
     let map = read_map(&mut reader)?;
     let dims = read_dims(&mut reader)?;
-    let bit_depth = reader.depth()?;
-    let alpha_bit_depth = reader.depth()?;
-    let (color, alpha) = read_pictures(&mut reader, dims.rows * dims.cols, color, alpha)?;
+    let bit_depth = reader.code()?;
+    let alpha_bit_depth = reader.code()?;
+    let (color, alpha) = read_pictures(&mut reader, dims.rows * dims.cols, room)?;
     let color_meta = read_color(&mut reader, map.cicp, map.icc)?;
     let metadata = read_metadata(&mut reader, map)?;
-    let gain_map = read_gain(&mut reader, map)?;
+    // The closure states what it reads: this is not inferred of a closure whose answer borrows from the sheet.
+    let gain_map = reader.optional(
+        map.gain_map,
+        |reader|
+            ensures { Reads (gain map) gain_of reader.old result reader.new }
+        { read_gain(reader, map) },
+    )?;
     at_end(&reader)?;
     Ok(Panel {
         dims,

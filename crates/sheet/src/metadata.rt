@@ -23,10 +23,8 @@ fn read_light(reader: &mut SheetReader) -> Result<ContentLightLevel, SheetRefusa
 fn read_oriented(reader: &mut SheetReader, stands: bool) -> Result<Orientation, SheetRefusal>
     ensures { Reads (oriented stands) (λ o. o) reader.old result reader.new }
 {
-    if stands {
-        return reader.orientation();
-    }
-    Ok(Orientation::Normal)
+    let orientation = reader.optional(stands, SheetReader::code)?;
+    Ok(orientation.unwrap_or(Orientation::Normal))
 }
 
 // Orientation, light level and Exif, each if its bit stands.
@@ -39,15 +37,7 @@ pub(crate) fn read_metadata<'a>(
 {
     Ok(Metadata {
         orientation: read_oriented(reader, map.orientation)?,
-        content_light_level: if map.light_level {
-            Some(read_light(reader)?)
-        } else {
-            None
-        },
-        exif: if map.exif {
-            Some(reader.string()?)
-        } else {
-            None
-        },
+        content_light_level: reader.optional(map.light_level, read_light)?,
+        exif: reader.optional(map.exif, SheetReader::string)?,
     })
 }

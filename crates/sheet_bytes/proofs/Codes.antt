@@ -5,7 +5,7 @@ use native.Mathlib.Omega.{arith}
 use Rattle.std.specs.Prelude.{Some, unwrap_or}
 use Rattle.octets.specs.Numbers.{be, value}
 use Rattle.panel.specs.Types.{primaries_code, transfer_code, matrix_code}
-use Rattle.panel.specs.Codes.{primaries_named, transfer_named, matrix_named}
+use Rattle.panel.specs.Codes.{primaries_named, transfer_named, matrix_named, depth_code, every_depth, orientation_code, every_orientation, bool_code, every_bool}
 use Rattle.panel.specs.declared.color.Primaries.{Primaries}
 use Rattle.panel.specs.declared.color.Primaries.TheVariants as P
 use Rattle.panel.specs.declared.color.TransferFunction.{TransferFunction}
@@ -16,8 +16,7 @@ use Rattle.panel.specs.declared.color.Cicp.{Cicp}
 use Rattle.panel.specs.declared.fmt.BitDepth.{BitDepth}
 use Rattle.panel.specs.declared.metadata.Orientation.{Orientation}
 use Rattle.panel.specs.declared.metadata.Orientation.TheVariants.{Normal}
-use Rattle.panel_codes.specs.Codes.{depth_code, every_depth, depth_named, orientation_code, every_orientation, orientation_named, bool_code}
-use Rattle.panel_codes.specs.Codes.{every_bool, yes_no}
+use Rattle.panel_codes.specs.Codes.{depth_named, orientation_named, yes_no}
 use Rattle.sheet_fields.specs.Codes.{depth, orientation, cicp}
 use Rattle.sheet_bytes.specs.Bytes.{cicp_bytes, orientation_bytes, turned}
 use Rattle.sheet_bytes.proofs.Says.{Says, and_then, closes, off_code}

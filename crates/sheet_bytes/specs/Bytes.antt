@@ -10,7 +10,7 @@ use Rattle.panel.specs.declared.color.Cicp.{Cicp}
 use Rattle.panel.specs.declared.metadata.ContentLightLevel.{ContentLightLevel}
 use Rattle.panel.specs.declared.metadata.Orientation.{Orientation}
 use Rattle.panel.specs.declared.metadata.Orientation.TheVariants.{Normal, FlipH, Rotate180, FlipV, Transpose, Rotate90, Transverse, Rotate270}
-use Rattle.panel_codes.specs.Codes.{depth_code, orientation_code, bool_code}
+use Rattle.panel.specs.Codes.{depth_code, orientation_code, bool_code}
 use Rattle.sheet_frame.specs.declared.map.Map.{Map}
 use Rattle.sheet.specs.Sheet.{Pictures}
 

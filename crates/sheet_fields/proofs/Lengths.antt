@@ -1,32 +1,39 @@
--- One length more of a list: the next four bytes.
-use Rattle.std.proofs.Common.{◌≡◌, refl, sum, [], ◌∷◌, ℕ, suc, ◌+◌, ◌*◌, ◌-◌, ◌<◌, ◌≤◌, List, ◌++◌, length, take, drop, set, append_assoc, add-one, length-drop, arith}
-use Rattle.std.proofs.lemmas.List.Sums.{sum_by-cons}
-use lib.Seq.{take-suc-set}
-use borrow.Author.Tests.{le-ltb}
-use Rattle.octets.specs.Numbers.{total, value}
-use Rattle.sheet_fields.specs.Read.{got}
-use Rattle.sheet_fields.specs.Fields.{bytes, number, words}
+-- Lengths, by the library's numbers of its chunks of four bytes.
+use Rattle.std.proofs.Common.{◌≡◌, ℕ, zero, suc, ◌*◌, ◌/◌, ◌<◌, ◌≤◌, List, [], ◌∷◌, map, length, length-take-le, take, drop, length-drop, refl, ap₂, arith}
+use Rattle.std.specs.Int.{w32, from_be_bytes}
+use Rattle.std.specs.Simd.{first_chunks}
+use borrow.Author.Tests.{lt-ltb}
+use Rattle.octets.specs.Numbers.{value}
+use Rattle.sheet_fields.specs.Read.{got, stop}
+use Rattle.sheet_fields.specs.Fields.{bytes, words, lengths}
 
--- four bytes are there
-pub next_word : (s : List ℕ) → 4 ≤ length s → number 4 s ≡ got (value (take 4 s)) (drop 4 s)
-unfolding number bytes
-next_word s four = rw (le-ltb (length s) 4 four)
+-- fewer bytes are left than the lengths take
+pub too_few : (n : ℕ) (s : List ℕ) → length s < 4 * n → lengths n s ≡ stop 11
+unfolding lengths bytes
+too_few n s h = rw (lt-ltb (length s) (4 * n) h)
 
-put : (n i : ℕ) (s front : List ℕ) → i < n → i < length front → take (i + 1) (set front i (value (take 4 s))) ++ words (n - (i + 1)) (drop 4 s) ≡ take i front ++ words (n - i) s
-put n i s front below within =
-    let one : n - i ≡ suc (n - suc i) = omega arith in
-    rw (add-one, take-suc-set front i (value (take 4 s)) within, append_assoc, one)
+-- what is read is as long as it was asked to be
+pub took : (n : ℕ) (s x t : List ℕ) → bytes n s ≡ got x t → length x ≡ n
+unfolding bytes
+took n s x t e = grind (arith, length-take-le)
 
--- the number is put behind the front, and four bytes fewer are left
-pub turn : (n i v : ℕ) (s t front : List ℕ) → length s + 4 * i ≡ 4 * n → i < n → i < length front → number 4 s ≡ got v t
-    → (length t + 4 * (i + 1) ≡ 4 * n) × (take (i + 1) (set front i v) ++ words (n - (i + 1)) t ≡ take i front ++ words (n - i) s)
-turn n i v s t front size below within e =
-    let word = next_word s (omega arith) in
-    let is_v : v ≡ value (take 4 s) = cc in
-    let is_t : t ≡ drop 4 s = cc in
-    rw (is_v, is_t) (omega (arith, length-drop 4 s), put n i s front below within)
+-- one number: the library's is the definition's
+word : (s : List ℕ) → 4 ≤ length s → from_be_bytes w32 (take 4 s) ≡ value (take 4 s)
+word [] four = absurd (omega arith)
+word (a ∷ []) four = absurd (omega arith)
+word (a ∷ b ∷ []) four = absurd (omega arith)
+word (a ∷ b ∷ c ∷ []) four = absurd (omega arith)
+word (a ∷ b ∷ c ∷ d ∷ s) four = omega arith
 
--- the project's word for a sum is the library's
-pub total_is_sum : (l : List ℕ) → total l ≡ sum l
-total_is_sum [] = refl
-total_is_sum (n ∷ l) = omega (arith, total_is_sum l, sum_by-cons (λ x. x) n l)
+-- all of them
+chunks : (n : ℕ) (x : List ℕ) → 4 * n ≤ length x → map (from_be_bytes w32) (first_chunks 4 n x) ≡ words n x
+chunks zero x four = refl
+chunks (suc n) x four = ap₂ ◌∷◌ (word x (omega arith)) (chunks n (drop 4 x) (omega (arith, length-drop 4 x)))
+
+-- what the lengths are, where their bytes were read
+pub lengths_read : (n : ℕ) (s x t : List ℕ) → bytes (4 * n) s ≡ got x t → lengths n s ≡ got (map (from_be_bytes w32) (first_chunks 4 (length x / 4) x)) t
+unfolding lengths
+lengths_read n s x t e =
+    let long = took (4 * n) s x t e in
+    let count : length x / 4 ≡ n = omega (arith, long) in
+    rw (e, count, chunks n x (omega (arith, long))) refl

@@ -4,9 +4,10 @@
 
 pub mod code;
 
-ghost use Rattle.std.specs.Prelude.{◌≡◌, ◌*◌, ◌^◌, ◌≤◌, ◌<◌, length, IfOk, sum};
+ghost use Rattle.std.specs.Prelude.{◌≡◌, ◌+◌, ◌*◌, length, IfOk};
+ghost use Rattle.std.specs.Fn.{FnOnceReturnsAtMut};
 ghost use Rattle.sheet_fields.specs.Fields.{bytes, number, string, lengths};
-ghost use Rattle.sheet_fields.specs.Reads.{Reads, sheet_number};
+ghost use Rattle.sheet_fields.specs.Reads.{Reads, ReadsOptional, sheet_number};
 
 use panel::Refusal;
 use panel_codes::UnknownCode;
@@ -28,18 +29,18 @@ pub enum SheetRefusal {
     Panel(Refusal),
 }
 
-impl SheetRefusal {
-    // The number.
-    pub fn number(self) -> u8
-        ensures { result ≡ sheet_number self }
-    {
-        match self {
+// The number of a refusal.
+impl From<SheetRefusal> for u8 {
+    ghost from_gives = { λ refusal n. n ≡ sheet_number refusal };
+
+    fn from(refusal: SheetRefusal) -> u8 {
+        match refusal {
             SheetRefusal::Short => 11,
             SheetRefusal::BadMap => 12,
             SheetRefusal::Code => 13,
             SheetRefusal::LeftOver => 14,
             SheetRefusal::TooLong => 15,
-            SheetRefusal::Panel(refusal) => refusal.number(),
+            SheetRefusal::Panel(refusal) => u8::from(refusal),
         }
     }
 }
@@ -90,7 +91,8 @@ impl<'a> SheetReader<'a> {
         Ok(*front)
     }
 
-    // u8, u16 and u32 are three and not one over the type of the number, as the library's from_be_bytes is.
+    // u8, u16 and u32 are three: one over the type of the number would need a trait of our own over from_be_bytes, with three impls, which
+    // is no plainer.
 
     // A number of one byte.
     #[tactic(auto, unfolding(crate::specs::Fields::number))]
@@ -125,28 +127,35 @@ impl<'a> SheetReader<'a> {
         self.bytes(n as usize)
     }
 
-    // n lengths of 32 bits, at the front of a list that has an entry for every four bytes that are left.
-    #[tactic(auto, using(crate::proofs::Lengths::next_word), unfolding(crate::specs::Fields::lengths, crate::specs::Fields::bytes))]
-    pub fn lengths<'l>(&mut self, n: u32, list: &'l mut [u32]) -> Result<&'l [u32], SheetRefusal>
-        requires { length self.old.left.now ≤ 4 * length list.old }
-        ensures reads { Reads (lengths n) (λ l. l.now) self.old result self.new }
-        ensures count { IfOk result (λ l. length l.now ≡ n) }
+    // What `read` reads, if its bit stands, else nothing.
+    pub fn optional<T, F: FnOnce(&mut SheetReader<'a>) -> Result<T, SheetRefusal>>(
+        &mut self,
+        stands: bool,
+        read: F,
+    ) -> Result<Option<T>, SheetRefusal>
+        requires { F.IsAlwaysCallable read }
+        ensures { ReadsOptional stands (λ r new. FnOnceReturnsAtMut F.FnOnce read self.old r new) self.old result self.new }
     {
-        let bytes = self.bytes(4 * n as usize)?;
-        let mut words = SheetReader { left: bytes };
-        // Over the lengths, since each reading can be refused: no iterator of the library writes what another reads and stops there.
-        let front = &mut list[..n as usize];
-        for length in front.iter_mut() {
-            *length = words.u32()?;
+        // By `if`: of `stands.then(|| read(self))` the check of borrows does not cover the closure, since F's bound names a lifetime.
+        if stands {
+            Ok(Some(read(self)?))
+        } else {
+            Ok(None)
         }
-        Ok(front)
     }
-}
 
-// The sum of lengths.
-pub fn sum_of(lengths: &[u32]) -> usize
-    requires { length lengths.now < 2 ^ 32 }
-    ensures { result ≡ sum lengths.now }
-{
-    lengths.iter().map(|length| *length as usize).sum()
+    // Lengths of 32 bits, as many as the list has entries, put into it.
+    #[tactic(auto, unfolding(crate::specs::Fields::lengths, crate::specs::Fields::bytes))]
+    pub fn lengths<'l>(&mut self, list: &'l mut [u32]) -> Result<&'l [u32], SheetRefusal>
+        ensures reads { Reads (lengths (length list.old)) (λ l. l.now) self.old result self.new }
+        ensures count { IfOk result (λ l. length l.now ≡ length list.old) }
+        ensures left { IfOk result (λ l. length self.new.left.now + 4 * length list.old ≡ length self.old.left.now) }
+    {
+        let (words, _) = self.bytes(4 * list.len())?.as_chunks();
+        // By index: of a list that is written through an adapter of iter_mut, as `zip`, the library says nothing.
+        for (i, word) in words.iter().enumerate() {
+            list[i] = u32::from_be_bytes(*word);
+        }
+        Ok(list)
+    }
 }

@@ -9,19 +9,6 @@ use sheet::read_sheet;
 use sheet_fields::SheetRefusal;
 use write_file::wrap_hevc_grid_with_alpha;
 
-// The file of a sheet that is short enough. A list of 3,072 lengths has an entry for every four bytes of 12,288.
-fn short_sheet_file(sheet: &[u8], out: &mut [u8]) -> Result<u64, SheetRefusal>
-    requires { length sheet.now ≤ 12288 }
-    ensures promised { SheetPromised sheet.now out.old (sheet_says result) out.new }
-    ensures within { IfOk result (λ n. n ≤ length out.old) }
-{
-    // Lists of fixed length, since nothing here may allocate.
-    let mut color = [0u32; 3072];
-    let mut alpha = [0u32; 3072];
-    let panel = read_sheet(sheet, &mut color, &mut alpha)?;
-    Ok(wrap_hevc_grid_with_alpha(&panel, out)?)
-}
-
 // The file of a sheet in the output, and its length; or why it is refused, and the output as it was.
 pub fn sheet_file(sheet: &[u8], out: &mut [u8]) -> Result<u64, SheetRefusal>
     ensures promised { SheetPromised sheet.now out.old (sheet_says result) out.new }
@@ -30,5 +17,8 @@ pub fn sheet_file(sheet: &[u8], out: &mut [u8]) -> Result<u64, SheetRefusal>
     if 12288 < sheet.len() {
         return Err(SheetRefusal::TooLong);
     }
-    short_sheet_file(sheet, out)
+    // An entry for every four bytes of 12,288. It is of fixed length, since nothing here may allocate.
+    let mut lengths = [0u32; 3072];
+    let panel = read_sheet(sheet, &mut lengths)?;
+    Ok(wrap_hevc_grid_with_alpha(&panel, out)?)
 }

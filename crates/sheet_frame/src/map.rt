@@ -1,7 +1,7 @@
 // The map of a sheet: which of the fields that may be left out are there.
 ghost use Rattle.std.specs.Prelude.{◌≡◌, ◌<◌};
 ghost use Rattle.sheet_fields.specs.Reads.{Reads};
-ghost use Rattle.sheet_frame.specs.Map.{bit, map_of, bad_map, sheet_map};
+ghost use Rattle.sheet_frame.specs.Map.{bit, sheet_map};
 
 use sheet_fields::{SheetReader, SheetRefusal};
 
@@ -27,42 +27,41 @@ fn bit(i: u32, bits: u16) -> bool
     bits >> i & 1 == 1
 }
 
-// Bits 0 to 8.
-#[tactic(auto, unfolding(crate::specs::Map::map_of))]
-fn map_of(bits: u16) -> Map
-    ensures { result ≡ map_of bits }
-{
-    Map {
-        cicp: bit(0, bits),
-        icc: bit(1, bits),
-        orientation: bit(2, bits),
-        light_level: bit(3, bits),
-        exif: bit(4, bits),
-        gain_map: bit(5, bits),
-        tmap: bit(6, bits),
-        alternate_cicp: bit(7, bits),
-        alternate_icc: bit(8, bits),
-    }
-}
+// Bits 0 to 8. A map is refused where a bit above 8 stands, or a field without the one that it belongs to.
+impl TryFrom<u16> for Map {
+    type Error = SheetRefusal;
 
-// Whether a bit above 8 stands, or a field without the one that it belongs to.
-fn bad_map(bits: u16, map: Map) -> bool
-    ensures { result ≡ bad_map bits map }
-{
-    511 < bits
-        || map.tmap && !map.gain_map
-        || (map.alternate_cicp || map.alternate_icc) && !map.tmap
+    ghost use Rattle.sheet_frame.specs.Judges.{Judges};
+
+    ghost try_from_gives = { λ bits result. Judges bits result };
+
+    #[tactic(auto, unfolding(crate::specs::Map::map_of, crate::specs::Map::judged))]
+    fn try_from(bits: u16) -> Result<Map, SheetRefusal> {
+        let map = Map {
+            cicp: bit(0, bits),
+            icc: bit(1, bits),
+            orientation: bit(2, bits),
+            light_level: bit(3, bits),
+            exif: bit(4, bits),
+            gain_map: bit(5, bits),
+            tmap: bit(6, bits),
+            alternate_cicp: bit(7, bits),
+            alternate_icc: bit(8, bits),
+        };
+        if 511 < bits
+            || map.tmap && !map.gain_map
+            || (map.alternate_cicp || map.alternate_icc) && !map.tmap
+        {
+            return Err(SheetRefusal::BadMap);
+        }
+        Ok(map)
+    }
 }
 
 // The map: 16 bits.
-#[tactic(auto, unfolding(crate::specs::Map::sheet_map, crate::specs::Map::judged))]
+#[tactic(auto, unfolding(crate::specs::Map::sheet_map))]
 pub fn read_map(reader: &mut SheetReader) -> Result<Map, SheetRefusal>
     ensures { Reads sheet_map (λ m. m) reader.old result reader.new }
 {
-    let bits = reader.u16()?;
-    let map = map_of(bits);
-    if bad_map(bits, map) {
-        return Err(SheetRefusal::BadMap);
-    }
-    Ok(map)
+    Map::try_from(reader.u16()?)
 }

@@ -27,7 +27,7 @@ fn write_brands(out: &mut Output, color: bool)
     out.put(b"mif1miaf");
 }
 
-// A further brand, where it is wanted. A function of its own, since after two choices in a row a proof would have each way through them.
+// One of the brands that only some files have, where this file has it.
 fn write_extra_brand(out: &mut Output, wanted: bool, brand: &[u8; 4])
     requires { Room out.old (cond wanted 4 0) }
     ensures { Wrote out.old (cond wanted 4 0) (given wanted brand.now) out.new }
@@ -37,7 +37,8 @@ fn write_extra_brand(out: &mut Output, wanted: bool, brand: &[u8; 4])
     }
 }
 
-// color and gain: the record is of the range extensions' profile.
+// ftyp: the brands, by which a reader knows what the file asks of it. color and gain: the record is of the range extensions' profile;
+// tone: there is a tone map. The three are handed as the definition `ftyp` takes them.
 pub fn write_ftyp(out: &mut Output, size: u32, color: bool, gain: bool, tone: bool)
     requires room { Room out.old (8 + ftyp_size color gain tone) }
     requires whole { size ≡ 8 + ftyp_size color gain tone }

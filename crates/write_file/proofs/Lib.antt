@@ -1,2 +1,4 @@
+pub mod Places
+pub mod Sections
 pub mod Ready
 pub mod Promises

@@ -30,21 +30,21 @@ module _ (f : Form) (p : Panel) (m : FilePlan) (made : MadeFrom f p m) where
   e : Laid f p m.layout
   e = made.laid
 
-  its_head : ftyp m.layout.color_rext m.layout.gain_rext m.layout.items.tone ≡ head p
-  its_head = λ i. ftyp (e.color_rext i) (e.gain_rext i) (e.items i).tone
+  its_head : ftyp m.layout.color_rext m.layout.gain_rext m.items.tone ≡ head p
+  its_head = λ i. ftyp (e.color_rext i) (e.gain_rext i) (made.items i).tone
 
-  head_size : ftyp_size m.layout.color_rext m.layout.gain_rext m.layout.items.tone ≡ length (head p).body
-  head_size = (λ i. ftyp_size (e.color_rext i) (e.gain_rext i) (e.items i).tone) ∙ sym (length-head p)
+  head_size : ftyp_size m.layout.color_rext m.layout.gain_rext m.items.tone ≡ length (head p).body
+  head_size = (λ i. ftyp_size (e.color_rext i) (e.gain_rext i) (made.items i).tone) ∙ sym (length-head p)
 
-  pub ftyp_whole : m.layout.ftyp ≡ 8 + ftyp_size m.layout.color_rext m.layout.gain_rext m.layout.items.tone
+  pub ftyp_whole : m.layout.ftyp ≡ 8 + ftyp_size m.layout.color_rext m.layout.gain_rext m.items.tone
   ftyp_whole = omega (arith, e.ftyp, head_size)
 
   pub mdat_whole : m.layout.mdat ≡ 8 + mdat_size p
   mdat_whole = omega (arith, e.mdat, length-mdat p even)
 
-  pub long : length (file f p) ≡ (8 + ftyp_size m.layout.color_rext m.layout.gain_rext m.layout.items.tone) + ((8 + meta_size f p) + (8 + mdat_size p))
+  pub long : length (file f p) ≡ (8 + ftyp_size m.layout.color_rext m.layout.gain_rext m.items.tone) + ((8 + meta_size f p) + (8 + mdat_size p))
   long = omega (arith, length-file f p even, head_size, length-head p)
 
-  pub three_boxes : boxes (ftyp m.layout.color_rext m.layout.gain_rext m.layout.items.tone ∷ meta f (locations (data_at f p) p) p ∷ box "mdat" (payload_bytes p) ∷ []) ≡ file f p
+  pub three_boxes : boxes (ftyp m.layout.color_rext m.layout.gain_rext m.items.tone ∷ meta f (locations (data_at f p) p) p ∷ box "mdat" (payload_bytes p) ∷ []) ≡ file f p
   unfolding file
   three_boxes = λ i. boxes (its_head i ∷ meta f (locations (data_at f p) p) p ∷ sym (mdat_parts p even.sum even.alpha_sum) i ∷ [])

@@ -22,22 +22,23 @@ use write_meta::write_meta;
 fn write_file(bytes: &mut [u8], form: FileForm, plan: &FilePlan, panel: &Panel)
     requires made { MadeFrom (form_of form) (panel_of panel.now) plan.now }
     requires room { plan.now.length ≤ length bytes.old }
-    ensures { bytes.new ≡ file (form_of form) (panel_of panel.now) ‖ drop (length (file (form_of form) (panel_of panel.now))) bytes.old }
+    ensures { let it = file (form_of form) (panel_of panel.now) in bytes.new ≡ it ‖ drop (length it) bytes.old }
 {
-    let layout = plan.layout;
+    let layout = &plan.layout;
     let mut out = Output::new(bytes);
     write_ftyp(
         &mut out,
         layout.ftyp,
         layout.color_rext,
         layout.gain_rext,
-        layout.items.has_tone(),
+        plan.items.has_tone(),
     );
-    write_meta(&mut out, form, plan, panel);
+    write_meta(&mut out, form, plan.items, layout, &plan.places, panel);
     write_mdat(&mut out, layout.mdat, panel);
 }
 
-// The file of a panel in a form, in the output, and its length; or why it is refused, and the output as it was.
+// The file of a panel in a form, in the output, and its length; or why it is refused, and the output as it was. `within` stands beside
+// `promised`, here and in each call that ends here, for one who has that call's contract alone and takes the file out of the output.
 pub fn wrap_in_form(form: FileForm, panel: &Panel, out: &mut [u8]) -> Result<u64, Refusal>
     ensures promised { Promised (form_of form) (panel_of panel.now) out.old (says result) out.new }
     ensures within { IfOk result (λ n. n ≤ length out.old) }

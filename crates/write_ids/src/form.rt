@@ -7,7 +7,8 @@ ghost use Rattle.panel.specs.Form.{form_of};
 use octets::Output;
 use panel::FileForm;
 
-// Writes a count of items.
+// Writes a count of items. Check 4 sees to it that the ordinary form cuts none. It is not one function with `write_id`, nor with `write_side`
+// of a grid's descriptor, which also take four bytes or two: each is held to a width of another definition.
 pub fn write_count(out: &mut Output, form: FileForm, n: u32)
     requires { Room out.old (form_of form).count }
     ensures { Wrote out.old (form_of form).count (be (form_of form).count n) out.new }

@@ -4,7 +4,7 @@
 
 pub mod form;
 
-ghost use Rattle.std.specs.Prelude.{◌≡◌, ◌+◌, ◌*◌, ◌%◌, ◌≤◌, ◌<◌};
+ghost use Rattle.std.specs.Prelude.{◌≡◌, ◌*◌, ◌%◌};
 ghost use mathlib.Core.List.{flat_map};
 ghost use Rattle.octets.specs.Numbers.{be};
 ghost use Rattle.octets.specs.Stores.{Room, Wrote};
@@ -12,9 +12,10 @@ ghost use Rattle.panel.specs.Form.{form_of};
 ghost use Rattle.heif.specs.Items.{ids_from};
 
 use octets::Output;
-use panel::{FileForm, ItemId, WideItemId};
+use panel::{FileForm, Ids, ItemId, WideItemId};
 
-// An id as the ordinary form has it, in 16 bits. Check 4 sees to it that none is cut.
+// An id as the ordinary form has it, in 16 bits. Check 4 sees to it that none is cut. It answers for every id and cannot fail; a TryFrom
+// would refuse some, with an error that no caller gets.
 pub fn ordinary_id(id: WideItemId) -> ItemId
     ensures { result.0 ≡ id.0 % 65536 }
 {
@@ -29,8 +30,8 @@ pub fn write_ordinary_id(out: &mut Output, id: ItemId)
     out.w16(id.0);
 }
 
-// Writes an id as the form has it. Here and in the writers above, output and form are two parameters, and not one struct: half of the
-// writers have no form to ask, and a struct of both would be one more borrow at each call.
+// Writes an id as the form has it. Here and in the crates that stand on this one, output and form are two parameters, and not one struct:
+// half of the writers have no form to ask, and a struct of both would be one more borrow at each call.
 pub fn write_id(out: &mut Output, form: FileForm, id: WideItemId)
     requires { Room out.old (form_of form).id }
     ensures { Wrote out.old (form_of form).id (be (form_of form).id id.0) out.new }
@@ -42,13 +43,12 @@ pub fn write_id(out: &mut Output, form: FileForm, id: WideItemId)
     }
 }
 
-// Writes n ids from `first` on. The two are handed as they are: a struct for them would be made at each call and taken apart at once.
-pub fn write_ids(out: &mut Output, form: FileForm, first: WideItemId, n: u32)
-    requires room { Room out.old ((form_of form).id * n) }
-    requires ids_fit { first.0 + n < 4294967296 }
-    ensures { Wrote out.old ((form_of form).id * n) (flat_map (be (form_of form).id) (ids_from first.0 n)) out.new }
+// Writes these ids.
+pub fn write_ids(out: &mut Output, form: FileForm, ids: Ids)
+    requires { Room out.old ((form_of form).id * ids.count) }
+    ensures { Wrote out.old ((form_of form).id * ids.count) (flat_map (be (form_of form).id) (ids_from ids.first.0 ids.count)) out.new }
 {
-    for id in first.0..first.0 + n {
+    for id in ids.range() {
         write_id(out, form, WideItemId(id));
     }
 }

@@ -4,10 +4,10 @@ ghost use Rattle.octets.specs.Numbers.{◌‖◌, be, text};
 ghost use Rattle.octets.specs.Stores.{Room, Boxed};
 ghost use Rattle.panel.specs.Form.{form_of};
 ghost use Rattle.panel.specs.Parts.{given};
-ghost use Rattle.heif.specs.Items.{gain_id, xmp_id, tone_id};
+ghost use Rattle.heif.specs.Items.{gain_id, xmp_id};
 ghost use Rattle.heif.specs.Iinf.{infe, gain_infes, infe_size, rdf_size, gain_infes_size};
 
-use crate::infe::{Entry, write_infe};
+use crate::infe::{Entry, write_given_infe, write_infe};
 use octets::Output;
 use panel::FileForm;
 use plan_items::items::Items;
@@ -35,30 +35,11 @@ fn write_image_infes(out: &mut Output, form: FileForm, s: Items)
     }
 }
 
-// The entry of the tone map, which is not hidden.
-fn write_tone_infe(out: &mut Output, form: FileForm, s: Items)
-    requires { Room out.old (cond s.tone (infe_size (form_of form)) 0) }
-    ensures { Boxed out.old (cond s.tone (infe_size (form_of form)) 0) (given s.tone (infe (form_of form) 0 (tone_id s) "tmap" [] ∷ [])) out.new }
-{
-    if s.has_tone() {
-        write_infe(
-            out,
-            form,
-            &Entry {
-                id: s.tmap_id(),
-                kind: b"tmap",
-                hidden: false,
-                content_type: b"",
-            },
-        );
-    }
-}
-
-// The gain map's entries.
+// The gain map's entries. That of the tone map is not hidden.
 pub(crate) fn write_gain_infes(out: &mut Output, form: FileForm, s: Items)
     requires { Room out.old (gain_infes_size (form_of form) s) }
     ensures { Boxed out.old (gain_infes_size (form_of form) s) (gain_infes (form_of form) s) out.new }
 {
     write_image_infes(out, form, s);
-    write_tone_infe(out, form, s);
+    write_given_infe(out, form, b"tmap", s.tone());
 }

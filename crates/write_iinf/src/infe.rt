@@ -1,10 +1,10 @@
 // infe: one entry of iinf.
-ghost use Rattle.std.specs.Prelude.{[], ◌∷◌, ◌+◌, ◌<◌, length};
+ghost use Rattle.std.specs.Prelude.{cond, [], ◌∷◌, ◌+◌, ◌<◌, length, is_some, option_map, option_to_list};
 ghost use Rattle.octets.specs.Numbers.{◌‖◌, be};
 ghost use Rattle.octets.specs.Stores.{Room, Wrote, Boxed};
 ghost use Rattle.panel.specs.Form.{form_of};
 ghost use Rattle.heif.specs.Iinf.{infe_size};
-ghost use Rattle.write_iinf.specs.Entry.{infe_of};
+ghost use Rattle.write_iinf.specs.Entry.{infe_of, shown};
 
 use octets::{Output, size_of};
 use panel::when::when;
@@ -33,7 +33,7 @@ fn write_item_type(out: &mut Output, kind: &[u8; 4], content_type: &[u8])
     out.put(content_type);
 }
 
-// An entry. In every form its size fits in 32 bits if it does with an id of four bytes.
+// An entry. That its size fits in 32 bits is asked for an id of four bytes, the longest that a form has, so that it holds in every form.
 pub(crate) fn write_infe(out: &mut Output, form: FileForm, entry: &Entry)
     requires room { Room out.old (infe_size (form_of form) + length entry.now.content_type.now) }
     requires short { 23 + length entry.now.content_type.now < 4294967296 }
@@ -43,4 +43,28 @@ pub(crate) fn write_infe(out: &mut Output, form: FileForm, entry: &Entry)
     write_item_box(out, form, size, b"infe", 2, when(entry.hidden, 1));
     write_id(out, form, entry.id);
     write_item_type(out, entry.kind, entry.content_type);
+}
+
+// The entry of an item of this type that is not hidden, where there is one.
+pub(crate) fn write_given_infe(
+    out: &mut Output,
+    form: FileForm,
+    kind: &[u8; 4],
+    id: Option<WideItemId>,
+)
+    requires { Room out.old (cond (is_some id) (infe_size (form_of form)) 0) }
+    ensures { let f = form_of form in Boxed out.old (cond (is_some id) (infe_size f) 0) (option_to_list (option_map (λ i. shown f kind.now i.0) id)) out.new }
+{
+    if let Some(id) = id {
+        write_infe(
+            out,
+            form,
+            &Entry {
+                id,
+                kind,
+                hidden: false,
+                content_type: b"",
+            },
+        );
+    }
 }

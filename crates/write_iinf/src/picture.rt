@@ -1,5 +1,5 @@
 // The entries of a picture in iinf: its tiles and its grid.
-ghost use Rattle.std.specs.Prelude.{[], ◌∷◌, ◌+◌, ◌*◌, ◌<◌};
+ghost use Rattle.std.specs.Prelude.{[], ◌∷◌, ◌+◌, ◌*◌};
 ghost use Rattle.octets.specs.Numbers.{◌‖◌};
 ghost use Rattle.octets.specs.Stores.{Room, Boxed};
 ghost use Rattle.panel.specs.Form.{form_of};
@@ -7,15 +7,15 @@ ghost use Rattle.heif.specs.Iinf.{infe, tile_infes, infe_size};
 
 use crate::infe::{Entry, write_infe};
 use octets::Output;
-use panel::{FileForm, WideItemId};
+use panel::{FileForm, Ids, WideItemId};
+use plan_items::items::PictureIds;
 
-// The hidden entries of n tiles from `first` on.
-fn write_tile_infes(out: &mut Output, form: FileForm, first: WideItemId, n: u32)
-    requires room { Room out.old (infe_size (form_of form) * n) }
-    requires ids_fit { first.0 + n < 4294967296 }
-    ensures { Boxed out.old (infe_size (form_of form) * n) (tile_infes (form_of form) first.0 n) out.new }
+// The hidden entries of tiles with these ids.
+fn write_tile_infes(out: &mut Output, form: FileForm, ids: Ids)
+    requires { Room out.old (infe_size (form_of form) * ids.count) }
+    ensures { Boxed out.old (infe_size (form_of form) * ids.count) (tile_infes (form_of form) ids.first.0 ids.count) out.new }
 {
-    for id in first.0..first.0 + n {
+    for id in ids.range() {
         write_infe(
             out,
             form,
@@ -29,24 +29,17 @@ fn write_tile_infes(out: &mut Output, form: FileForm, first: WideItemId, n: u32)
     }
 }
 
-// The entries of a picture: the hidden ones of its n tiles from `first` on, and its grid's.
-pub(crate) fn write_picture_infes(
-    out: &mut Output,
-    form: FileForm,
-    first: WideItemId,
-    n: u32,
-    grid: WideItemId,
-)
-    requires room { Room out.old (infe_size (form_of form) * n + infe_size (form_of form)) }
-    requires ids_fit { first.0 + n < 4294967296 }
-    ensures { Boxed out.old (infe_size (form_of form) * n + infe_size (form_of form)) (tile_infes (form_of form) first.0 n ‖ infe (form_of form) 0 grid.0 "grid" [] ∷ []) out.new }
+// The entries of a picture: the hidden ones of its tiles, and its grid's.
+pub(crate) fn write_picture_infes(out: &mut Output, form: FileForm, picture: PictureIds)
+    requires { Room out.old (infe_size (form_of form) * picture.tiles.count + infe_size (form_of form)) }
+    ensures { Boxed out.old (infe_size (form_of form) * picture.tiles.count + infe_size (form_of form)) (tile_infes (form_of form) picture.tiles.first.0 picture.tiles.count ‖ infe (form_of form) 0 picture.grid.0 "grid" [] ∷ []) out.new }
 {
-    write_tile_infes(out, form, first, n);
+    write_tile_infes(out, form, picture.tiles);
     write_infe(
         out,
         form,
         &Entry {
-            id: grid,
+            id: picture.grid,
             kind: b"grid",
             hidden: false,
             content_type: b"",

@@ -1,12 +1,11 @@
 -- Extents by their sizes, and runs of entries, one behind the other.
 use mathlib.Core.Path.{◌≡◌, refl, sym, ap, ◌∙◌}
 use mathlib.Core.List.{List, [], ◌∷◌, ◌++◌, map, flat_map}
-use Prim.Native.Nat.{ℕ, suc, ◌+◌, ◌<◌}
+use Prim.Native.Nat.{ℕ, suc, ◌+◌}
 use native.Mathlib.Nat.{add-zero}
 use native.Mathlib.Numerals.{add-one}
 use native.Mathlib.Omega.{arith}
-use lib.ListN.{length, length-take, take, get_or}
-use lib.Seq.{take-suc}
+use lib.ListN.{length}
 use Rattle.octets.specs.Numbers.{total}
 use Rattle.octets.proofs.Lists.{flat_map-append, flat_map_one}
 use Rattle.panel.specs.Form.{Form}
@@ -56,14 +55,7 @@ pub entries_none : (f : Form) (id at : ℕ) → [] ≡ entries f id at []
 unfolding spans flat_map
 entries_none f id at = refl
 
--- one more of a list
-pub entries_step : (f : Form) (id at : ℕ) (l : List ℕ) (i : ℕ) → i < length l
-    → entries f id at (take i l) ++ entry f (location (id + i) 0 (at + total (take i l)) (get_or l i 0))
-    ≡ entries f id at (take (i + 1) l)
-entries_step f id at l i h =
-    let n = get_or l i 0 in
-    let front = entries f id at (take i l) in
-    let here : id + i ≡ id + length (take i l) = simp length-take (omega arith) in
-    ap (λ (r : List ℕ). front ++ r) (entries_one f (id + i) (at + total (take i l)) n)
-    ∙ entries_append f id at (take i l) (n ∷ []) here refl
-    ∙ ap (entries f id at) (rw (add-one, take-suc l i 0) refl)
+-- one more in front
+pub entries_more : (f : Form) (id at n : ℕ) (l : List ℕ) → entries f id at (n ∷ l) ≡ entry f (location id 0 at n) ++ entries f (id + 1) (at + n) l
+unfolding spans flat_map
+entries_more f id at n l = rw add-one refl

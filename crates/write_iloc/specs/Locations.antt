@@ -1,13 +1,14 @@
 -- A location from the code's numbers, and the items' locations: by the shape, where each run of payloads begins, and their sizes.
-use Rattle.std.specs.Prelude.{List, [], ◌∷◌, ℕ}
-use Rattle.octets.specs.Numbers.{◌‖◌}
+use Rattle.std.specs.Prelude.{List, [], ◌∷◌, ℕ, ◌+◌}
+use Rattle.octets.specs.Numbers.{◌‖◌, total}
+use Rattle.panel.specs.Form.{Form}
 use Rattle.panel.specs.Parts.{given}
 use Rattle.panel.specs.declared.Shape.{Shape}
-use Rattle.heif.specs.Items.{colour_grid, alpha_tile, alpha_grid, exif_id}
+use Rattle.heif.specs.Items.{colour_grid, alpha_tile, alpha_grid, exif_id, gain_id, tone_id}
 use Rattle.heif.specs.Iloc.{Location, located}
 use Rattle.plan_items.specs.declared.payloads.PayloadLengths.{PayloadLengths}
 use Rattle.plan_items.specs.declared.payloads.Payloads.{Payloads}
-use Rattle.write_iloc.specs.Spans.{spans, location}
+use Rattle.write_iloc.specs.Spans.{spans, location, entries}
 use Rattle.write_iloc.specs.declared.location.Location.{Location as Entry}
 use Rattle.write_iloc.specs.declared.location.Method.{Method}
 use Rattle.write_iloc.specs.declared.location.Method.TheVariants.{File, Idat}
@@ -26,6 +27,18 @@ sizes s l = given s.gain (l.sample ∷ l.xmp ∷ []) ‖ given s.tone (l.tmap �
 -- the sizes of the payloads behind the alpha samples, where an Exif payload has e bytes
 abbrev pub other_sizes : Shape → ℕ → PayloadLengths → List ℕ
 other_sizes s e g = given s.exif (e ∷ []) ‖ sizes s g
+
+-- the gain map's entries, whose payloads lie back to back from `at` on
+abbrev pub gain_entries : Form → Shape → ℕ → PayloadLengths → List ℕ
+gain_entries f s at l =
+    entries f (gain_id s) at (given s.gain (l.sample ∷ l.xmp ∷ []))
+    ‖ entries f (tone_id s) (at + l.sample + l.xmp) (given s.tone (l.tmap ∷ []))
+
+-- the entries of the Exif and of the gain map, whose payloads lie back to back behind the alpha samples
+abbrev pub other_entries : Form → Shape → Payloads → List ℕ
+other_entries f s p =
+    let exif = given s.exif (p.exif ∷ []) in
+    entries f (exif_id s) p.other exif ‖ gain_entries f s (p.other + total exif) p.gain
 
 -- with the lengths of the colour samples and of the alpha samples
 abbrev pub placed : Shape → Payloads → List ℕ → List ℕ → List Location

@@ -5,40 +5,31 @@
 pub mod gain_map;
 pub mod location;
 
-ghost use Rattle.std.specs.Prelude.{◌≡◌, cond, [], ◌∷◌, ◌+◌, ◌*◌, ◌<◌, length};
+ghost use Rattle.std.specs.Prelude.{◌≡◌, true, cond, [], ◌∷◌, ◌+◌, ◌*◌, ◌<◌, length};
 ghost use Rattle.octets.specs.Numbers.{◌‖◌, total};
 ghost use Rattle.octets.specs.Stores.{Room, Wrote, Boxed};
 ghost use Rattle.panel.specs.Form.{form_of};
-ghost use Rattle.heif.specs.Items.{exif_id};
 ghost use Rattle.heif.specs.Iloc.{entry, iloc, iloc_size, entry_size, gain_entries_size};
 ghost use Rattle.write_iloc.specs.Spans.{entries};
-ghost use Rattle.write_iloc.specs.Locations.{location_of, other_sizes, placed};
+ghost use Rattle.write_iloc.specs.Locations.{location_of, other_entries, placed};
 
-use crate::gain_map::write_gain_locations;
+use crate::gain_map::{GainPayloads, write_gain_locations};
 use crate::location::{
-    Location, Method, write_file_locations, write_given_location, write_location,
+    Batch, Location, Method, write_file_locations, write_given_location, write_location,
 };
 use octets::Output;
-use panel::{FileForm, WideItemId};
+use panel::FileForm;
+use panel::when::when;
 use plan_items::items::Items;
 use plan_items::payloads::Payloads;
 use write_ids::form::{write_count, write_item_box};
 
-// The entries of a picture: those of its tiles with ids from `first` on, whose samples lie back to back from `offset` on, and its grid's.
-fn write_picture_locations(
-    out: &mut Output,
-    form: FileForm,
-    first: WideItemId,
-    offset: u32,
-    lengths: &[u32],
-    grid: Location,
-)
-    requires room { Room out.old (entry_size (form_of form) * length lengths.now + entry_size (form_of form)) }
-    requires ids_fit { first.0 + length lengths.now < 4294967296 }
-    requires end_fits { offset + total lengths.now < 4294967296 }
-    ensures { Wrote out.old (entry_size (form_of form) * length lengths.now + entry_size (form_of form)) (entries (form_of form) first.0 offset lengths.now ‖ entry (form_of form) (location_of grid)) out.new }
+// The entries of a picture: those of its tiles and its grid's.
+fn write_picture_locations(out: &mut Output, form: FileForm, tiles: Batch, grid: Location)
+    requires { Room out.old (entry_size (form_of form) * length tiles.lengths.now + entry_size (form_of form)) }
+    ensures { let b = tiles.entry in Wrote out.old (entry_size (form_of form) * length b.lengths.now + entry_size (form_of form)) (entries (form_of form) b.ids.first.0 b.offset b.lengths.now ‖ entry (form_of form) (location_of grid)) out.new }
 {
-    write_file_locations(out, form, first, offset, lengths);
+    write_file_locations(out, form, tiles);
     write_location(out, form, grid);
 }
 
@@ -46,21 +37,24 @@ fn write_picture_locations(
 fn write_other_locations(out: &mut Output, form: FileForm, s: Items, payloads: Payloads)
     requires room { Room out.old (cond s.exif (entry_size (form_of form)) 0 + gain_entries_size (form_of form) s) }
     requires end_fits { payloads.other + (payloads.exif + (payloads.gain.sample + payloads.gain.xmp)) < 4294967296 }
-    ensures { Wrote out.old (cond s.exif (entry_size (form_of form)) 0 + gain_entries_size (form_of form) s) (entries (form_of form) (exif_id s) payloads.other (other_sizes s payloads.exif payloads.gain)) out.new }
+    ensures { Wrote out.old (cond s.exif (entry_size (form_of form)) 0 + gain_entries_size (form_of form) s) (other_entries (form_of form) s payloads) out.new }
 {
-    let exif = s.has_exif().then_some(payloads.exif);
-    write_given_location(out, form, s.exif_id(), payloads.other, exif);
-    write_gain_locations(
-        out,
-        form,
-        s,
-        payloads.other + exif.unwrap_or(0),
-        payloads.gain,
-    );
+    let exif = Location {
+        id: s.exif_id(),
+        method: Method::File,
+        offset: payloads.other,
+        size: payloads.exif,
+    };
+    write_given_location(out, form, s.has_exif().then_some(exif));
+    let gain = GainPayloads {
+        offset: payloads.other + when(s.has_exif(), payloads.exif),
+        lengths: payloads.gain,
+    };
+    write_gain_locations(out, form, s, gain);
 }
 
-// iloc, from the lengths of the colour samples and of the alpha samples. The grids' descriptors lie in idat, the colour grid's first. Of
-// its parameters each has another maker, the plan or the panel, and a struct for them would have one user.
+// iloc, from the lengths of the colour samples and of the alpha samples. The grids' descriptors lie in idat, the colour grid's first. A
+// struct for its parameters would be made in one place and taken apart in one.
 pub fn write_iloc(
     out: &mut Output,
     form: FileForm,
@@ -72,6 +66,7 @@ pub fn write_iloc(
 )
     requires room { Room out.old (8 + iloc_size (form_of form) s) }
     requires whole { size ≡ 8 + iloc_size (form_of form) s }
+    requires toned { s.tone ≡ true → s.gain ≡ true }
     requires color_tiles { length color.now ≡ s.tiles }
     requires alpha_tiles { length alpha.now ≡ s.tiles }
     requires color_end_fits { payloads.color + total color.now < 4294967296 }
@@ -79,14 +74,26 @@ pub fn write_iloc(
     requires other_end_fits { payloads.other + (payloads.exif + (payloads.gain.sample + payloads.gain.xmp)) < 4294967296 }
     ensures { Boxed out.old (8 + iloc_size (form_of form) s) (iloc (form_of form) (placed s payloads color.now alpha.now) ∷ []) out.new }
 {
+    let color_ids = s.color();
+    let alpha_ids = s.alpha();
+    let color_tiles = Batch {
+        ids: color_ids.tiles,
+        offset: payloads.color,
+        lengths: color,
+    };
+    let alpha_tiles = Batch {
+        ids: alpha_ids.tiles,
+        offset: payloads.alpha,
+        lengths: alpha,
+    };
     let color_grid = Location {
-        id: s.color_grid_id(),
+        id: color_ids.grid,
         method: Method::Idat,
         offset: 0,
         size: payloads.descriptor,
     };
     let alpha_grid = Location {
-        id: s.alpha_grid_id(),
+        id: alpha_ids.grid,
         method: Method::Idat,
         offset: payloads.descriptor,
         size: payloads.descriptor,
@@ -95,14 +102,7 @@ pub fn write_iloc(
     // Offsets and lengths of 4 bytes, no base offset and no index.
     out.w16(0x4400);
     write_count(out, form, s.last_id());
-    write_picture_locations(out, form, WideItemId(1), payloads.color, color, color_grid);
-    write_picture_locations(
-        out,
-        form,
-        s.alpha_tile_base(),
-        payloads.alpha,
-        alpha,
-        alpha_grid,
-    );
+    write_picture_locations(out, form, color_tiles, color_grid);
+    write_picture_locations(out, form, alpha_tiles, alpha_grid);
     write_other_locations(out, form, s, payloads);
 }

@@ -1,5 +1,6 @@
 // The entries of iloc.
-ghost use Rattle.std.specs.Prelude.{◌≡◌, cond, is_some, option_to_list, ◌+◌, ◌*◌, ◌<◌, length};
+ghost use Rattle.std.specs.Prelude.{◌≡◌, cond, is_some, option_map, option_to_list, ◌+◌, ◌*◌, ◌<◌, length};
+ghost use mathlib.Core.List.{flat_map};
 ghost use Rattle.octets.specs.Numbers.{total};
 ghost use Rattle.octets.specs.Stores.{Room, Wrote};
 ghost use Rattle.panel.specs.Form.{ordinary, form_of};
@@ -8,7 +9,7 @@ ghost use Rattle.write_iloc.specs.Spans.{location, entries};
 ghost use Rattle.write_iloc.specs.Locations.{method_code, location_of};
 
 use octets::Output;
-use panel::{FileForm, ItemId, WideItemId};
+use panel::{FileForm, Ids, ItemId, WideItemId};
 use write_ids::{ordinary_id, write_ordinary_id};
 
 // The construction method of a payload: what its offset is counted from, the file's first byte or that of idat's body.
@@ -18,12 +19,14 @@ pub(crate) enum Method {
     Idat = 1,
 }
 
-impl Method {
-    // Its number.
-    pub fn code(self) -> u16
-        ensures { result ≡ method_code self }
-    {
-        self as u16
+// A construction method's number.
+impl From<Method> for u16 {
+    ghost use Rattle.write_iloc.specs.Locations.{method_code};
+
+    ghost from_gives = { λ method n. n ≡ method_code method };
+
+    fn from(method: Method) -> u16 {
+        method as u16
     }
 }
 
@@ -36,20 +39,31 @@ pub(crate) struct Location {
     pub size: u32,
 }
 
-// The entry of an item in the ordinary form, whose id has 16 bits: its id, its construction method, data reference 0, and its one extent.
+// Items whose ids follow one another, and whose payloads lie back to back in the file from `offset` on.
+#[derive(Clone, Copy)]
+pub(crate) struct Batch<'a> {
+    pub ids: Ids,
+    pub offset: u32,
+    pub lengths: &'a [u32],
+    ghost counted: { ids.count ≡ length lengths.now },
+    ghost end_fits: { offset + total lengths.now < 4294967296 },
+}
+
+// The entry of an item in the ordinary form: its id, its construction method, data reference 0, and its one extent. It takes no `Location`,
+// whose id is not yet one of 16 bits.
 fn write_ordinary_location(out: &mut Output, id: ItemId, method: Method, offset: u32, size: u32)
     requires { Room out.old (entry_size ordinary) }
     ensures { Wrote out.old (entry_size ordinary) (entry ordinary (location id.0 (method_code method) offset size)) out.new }
 {
     write_ordinary_id(out, id);
-    out.w16(method.code());
+    out.w16(u16::from(method));
     out.w16(0);
     out.w16(1);
     out.w32(offset);
     out.w32(size);
 }
 
-// The entry of an item as the form has it.
+// The entry of an item as the form has it. A form whose entries have other ids gets an arm of its own.
 #[tactic(auto, unfolding(panel::specs::Form::form_of))]
 pub(crate) fn write_location(out: &mut Output, form: FileForm, l: Location)
     requires { Room out.old (entry_size (form_of form)) }
@@ -62,50 +76,28 @@ pub(crate) fn write_location(out: &mut Output, form: FileForm, l: Location)
     }
 }
 
-// The entry of a payload in the file, by its size where it is present.
-pub(crate) fn write_given_location(
-    out: &mut Output,
-    form: FileForm,
-    id: WideItemId,
-    offset: u32,
-    size: Option<u32>,
-)
-    requires { Room out.old (cond (is_some size) (entry_size (form_of form)) 0) }
-    ensures { Wrote out.old (cond (is_some size) (entry_size (form_of form)) 0) (entries (form_of form) id.0 offset (option_to_list size)) out.new }
+// The entry of an item, where there is one.
+pub(crate) fn write_given_location(out: &mut Output, form: FileForm, l: Option<Location>)
+    requires { Room out.old (cond (is_some l) (entry_size (form_of form)) 0) }
+    ensures { Wrote out.old (cond (is_some l) (entry_size (form_of form)) 0) (flat_map (entry (form_of form)) (option_to_list (option_map location_of l))) out.new }
 {
-    if let Some(size) = size {
-        write_location(
-            out,
-            form,
-            Location {
-                id,
-                method: Method::File,
-                offset,
-                size,
-            },
-        );
+    if let Some(l) = l {
+        write_location(out, form, l);
     }
 }
 
-// The entries of items with ids from `first` on, whose payloads lie back to back in the file from `offset` on.
-pub(crate) fn write_file_locations(
-    out: &mut Output,
-    form: FileForm,
-    first: WideItemId,
-    mut offset: u32,
-    lengths: &[u32],
-)
-    requires room { Room out.old (entry_size (form_of form) * length lengths.now) }
-    requires ids_fit { first.0 + length lengths.now < 4294967296 }
-    requires end_fits { offset + total lengths.now < 4294967296 }
-    ensures { Wrote out.old (entry_size (form_of form) * length lengths.now) (entries (form_of form) first.0 offset lengths.now) out.new }
+// The entries of a batch's items.
+pub(crate) fn write_file_locations(out: &mut Output, form: FileForm, batch: Batch)
+    requires { Room out.old (entry_size (form_of form) * length batch.lengths.now) }
+    ensures { let b = batch.entry in Wrote out.old (entry_size (form_of form) * length b.lengths.now) (entries (form_of form) b.ids.first.0 b.offset b.lengths.now) out.new }
 {
-    for (i, &size) in lengths.iter().enumerate() {
+    let mut offset = batch.offset;
+    for (id, &size) in batch.ids.range().zip(batch.lengths) {
         write_location(
             out,
             form,
             Location {
-                id: WideItemId(first.0 + i as u32),
+                id: WideItemId(id),
                 method: Method::File,
                 offset,
                 size,

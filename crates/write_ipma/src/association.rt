@@ -1,21 +1,19 @@
 // The entries of ipma: an item's id, how many properties it is associated with, and which.
-ghost use mathlib.Core.List.{[], ◌∷◌, flat_map};
-ghost use Rattle.std.specs.Prelude.{cond, ◌+◌, ◌*◌, ◌<◌, length};
+ghost use mathlib.Core.List.{flat_map};
+ghost use Rattle.std.specs.Prelude.{cond, ◌*◌, length, is_some, option_map, option_to_list};
 ghost use Rattle.octets.specs.Stores.{Room, Wrote};
 ghost use Rattle.panel.specs.Form.{ordinary, form_of};
-ghost use Rattle.panel.specs.Parts.{given};
 ghost use Rattle.heif.specs.Ipma.{◌with◌, each, association, association_size};
 ghost use Rattle.plan_runs.specs.Lists.{listed};
 
 use octets::Output;
-use panel::{FileForm, ItemId, WideItemId};
-use plan_runs::Run;
-use plan_runs::lists::count;
+use panel::{FileForm, Ids, ItemId, WideItemId};
+use plan_runs::lists::{Associated, count};
 use write_ids::{ordinary_id, write_ordinary_id};
 use write_ipma_lists::write_list;
 
 // An item's entry in the ordinary form, whose id has 16 bits; its count has 8.
-fn write_ordinary_association(out: &mut Output, id: ItemId, list: &[(Run, bool)])
+fn write_ordinary_association(out: &mut Output, id: ItemId, list: &[Associated])
     requires { Room out.old (association_size ordinary (length (listed list.now))) }
     ensures { Wrote out.old (association_size ordinary (length (listed list.now))) (association ordinary (id.0 with listed list.now)) out.new }
 {
@@ -24,13 +22,13 @@ fn write_ordinary_association(out: &mut Output, id: ItemId, list: &[(Run, bool)]
     write_list(out, list);
 }
 
-// An item's entry as the form has it.
+// An item's entry as the form has it. A form whose entries have other ids gets an arm of its own.
 #[tactic(auto, unfolding(panel::specs::Form::form_of))]
 pub(crate) fn write_association(
     out: &mut Output,
     form: FileForm,
     id: WideItemId,
-    list: &[(Run, bool)],
+    list: &[Associated],
 )
     requires { Room out.old (association_size (form_of form) (length (listed list.now))) }
     ensures { Wrote out.old (association_size (form_of form) (length (listed list.now))) (association (form_of form) (id.0 with listed list.now)) out.new }
@@ -40,35 +38,27 @@ pub(crate) fn write_association(
     }
 }
 
-// An item's entry, where the item is there.
-pub(crate) fn write_association_if(
+// An item's entry, where there is one.
+pub(crate) fn write_given_association(
     out: &mut Output,
     form: FileForm,
-    is_there: bool,
-    id: WideItemId,
-    list: &[(Run, bool)],
+    id: Option<WideItemId>,
+    list: &[Associated],
 )
-    requires { Room out.old (cond is_there (association_size (form_of form) (length (listed list.now))) 0) }
-    ensures { Wrote out.old (cond is_there (association_size (form_of form) (length (listed list.now))) 0) (flat_map (association (form_of form)) (given is_there ((id.0 with listed list.now) ∷ []))) out.new }
+    requires { Room out.old (cond (is_some id) (association_size (form_of form) (length (listed list.now))) 0) }
+    ensures { Wrote out.old (cond (is_some id) (association_size (form_of form) (length (listed list.now))) 0) (flat_map (association (form_of form)) (option_to_list (option_map (λ i. i.0 with listed list.now) id))) out.new }
 {
-    if is_there {
+    if let Some(id) = id {
         write_association(out, form, id, list);
     }
 }
 
-// The entries of n items from `first` on, which have the same properties.
-pub(crate) fn write_associations(
-    out: &mut Output,
-    form: FileForm,
-    first: WideItemId,
-    n: u32,
-    list: &[(Run, bool)],
-)
-    requires room { Room out.old (association_size (form_of form) (length (listed list.now)) * n) }
-    requires ids_fit { first.0 + n < 4294967296 }
-    ensures { Wrote out.old (association_size (form_of form) (length (listed list.now)) * n) (flat_map (association (form_of form)) (each first.0 n (listed list.now))) out.new }
+// The entries of items that have the same properties.
+pub(crate) fn write_associations(out: &mut Output, form: FileForm, ids: Ids, list: &[Associated])
+    requires { Room out.old (association_size (form_of form) (length (listed list.now)) * ids.count) }
+    ensures { Wrote out.old (association_size (form_of form) (length (listed list.now)) * ids.count) (flat_map (association (form_of form)) (each ids.first.0 ids.count (listed list.now))) out.new }
 {
-    for id in first.0..first.0 + n {
+    for id in ids.range() {
         write_association(out, form, WideItemId(id), list);
     }
 }

@@ -4,41 +4,40 @@
 
 pub mod association;
 
-ghost use Rattle.std.specs.Prelude.{◌≡◌, ◌+◌, ◌≤◌, length};
+ghost use Rattle.std.specs.Prelude.{◌≡◌, ◌+◌, length};
 ghost use mathlib.Core.List.{[], ◌∷◌, flat_map};
+ghost use Rattle.octets.specs.Numbers.{◌‖◌};
 ghost use Rattle.octets.specs.Stores.{Room, Wrote, Boxed};
 ghost use Rattle.panel.specs.Form.{form_of};
-ghost use Rattle.heif.specs.Ipma.{colour_associations, alpha_associations, gain_associations, associations, association, ipma, associated_items};
+ghost use Rattle.heif.specs.Ipma.{◌with◌, each, gain_associations, associations, association, ipma, associated_items};
 ghost use Rattle.plan_runs.specs.Roles.{its_of};
+ghost use Rattle.plan_runs.specs.Lists.{listed};
 
-use crate::association::{write_association, write_association_if, write_associations};
+use crate::association::{write_association, write_associations, write_given_association};
 use octets::Output;
+use panel::FileForm;
 use panel::when::when;
-use panel::{FileForm, WideItemId};
-use plan_items::items::Items;
+use plan_items::items::{Items, PictureIds};
 use plan_runs::Places;
 use plan_runs::lists::{
-    alpha_grid_list, alpha_tile_list, color_grid_list, color_tile_list, image_list, tone_list,
+    Associated, alpha_grid_list, alpha_tile_list, color_grid_list, color_tile_list, image_list,
+    tone_list,
 };
 use write_ids::form::write_item_box;
 
-// The entries of the colour picture: its tiles' and its grid's.
-fn write_color_associations(out: &mut Output, form: FileForm, s: Items, y: &Places)
-    requires { Room out.old (length (flat_map (association (form_of form)) (colour_associations s (its_of y.now)))) }
-    ensures { let bytes = flat_map (association (form_of form)) (colour_associations s (its_of y.now)) in Wrote out.old (length bytes) bytes out.new }
+// The entries of a picture: its tiles', which have the same properties, and its grid's.
+fn write_picture_associations(
+    out: &mut Output,
+    form: FileForm,
+    ids: PictureIds,
+    tile: &[Associated],
+    grid: &[Associated],
+)
+    requires { Room out.old (length (flat_map (association (form_of form)) (each ids.tiles.first.0 ids.tiles.count (listed tile.now) ‖ (ids.grid.0 with listed grid.now) ∷ []))) }
+    ensures { let bytes = flat_map (association (form_of form)) (each ids.tiles.first.0 ids.tiles.count (listed tile.now) ‖ (ids.grid.0 with listed grid.now) ∷ []) in Wrote out.old (length bytes) bytes out.new }
 {
-    write_associations(out, form, WideItemId(1), s.tiles(), &color_tile_list(y));
-    write_association(out, form, s.color_grid_id(), &color_grid_list(y));
-}
-
-// The entries of the alpha picture: its tiles' and its grid's.
-fn write_alpha_associations(out: &mut Output, form: FileForm, s: Items, y: &Places)
-    requires { Room out.old (length (flat_map (association (form_of form)) (alpha_associations s (its_of y.now)))) }
-    ensures { let bytes = flat_map (association (form_of form)) (alpha_associations s (its_of y.now)) in Wrote out.old (length bytes) bytes out.new }
-{
-    let first = s.alpha_tile_base();
-    write_associations(out, form, first, s.tiles(), &alpha_tile_list(y));
-    write_association(out, form, s.alpha_grid_id(), &alpha_grid_list(y));
+    write_associations(out, form, ids.tiles, tile);
+    write_association(out, form, ids.grid, grid);
 }
 
 // The entries of the gain map: the gain image's and the tone map's, where there are any.
@@ -46,8 +45,8 @@ fn write_gain_associations(out: &mut Output, form: FileForm, s: Items, y: &Place
     requires { Room out.old (length (flat_map (association (form_of form)) (gain_associations s (its_of y.now)))) }
     ensures { let bytes = flat_map (association (form_of form)) (gain_associations s (its_of y.now)) in Wrote out.old (length bytes) bytes out.new }
 {
-    write_association_if(out, form, s.has_gain(), s.gain_id(), &image_list(y));
-    write_association_if(out, form, s.has_tone(), s.tmap_id(), &tone_list(y));
+    write_given_association(out, form, s.gain(), &image_list(y));
+    write_given_association(out, form, s.tone(), &tone_list(y));
 }
 
 // How many items ipma names: the tiles, the grids, the gain image and the tone map.
@@ -65,7 +64,19 @@ pub fn write_ipma(out: &mut Output, form: FileForm, size: u32, s: Items, y: &Pla
 {
     write_item_box(out, form, size, b"ipma", 0, 0);
     out.w32(associated_items(s));
-    write_color_associations(out, form, s, y);
-    write_alpha_associations(out, form, s, y);
+    write_picture_associations(
+        out,
+        form,
+        s.color(),
+        &color_tile_list(y),
+        &color_grid_list(y),
+    );
+    write_picture_associations(
+        out,
+        form,
+        s.alpha(),
+        &alpha_tile_list(y),
+        &alpha_grid_list(y),
+    );
     write_gain_associations(out, form, s, y);
 }

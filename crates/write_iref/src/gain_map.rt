@@ -3,10 +3,10 @@ ghost use Rattle.std.specs.Prelude.{cond, [], ◌∷◌, ◌*◌};
 ghost use Rattle.octets.specs.Stores.{Room, Boxed};
 ghost use Rattle.panel.specs.Form.{form_of};
 ghost use Rattle.panel.specs.Parts.{given};
-ghost use Rattle.heif.specs.Items.{gain_id, colour_grid, xmp_id, tone_id};
+ghost use Rattle.heif.specs.Items.{gain_id, colour_grid, xmp_id};
 ghost use Rattle.heif.specs.Iref.{reference, gain_references, reference_size, gain_references_size};
 
-use crate::reference::write_ref;
+use crate::reference::{write_given_ref, write_ref};
 use octets::Output;
 use panel::FileForm;
 use plan_items::items::Items;
@@ -23,27 +23,12 @@ fn write_image_refs(out: &mut Output, form: FileForm, s: Items)
     }
 }
 
-// The tone map derives from the colour grid and the gain image.
-fn write_tone_ref(out: &mut Output, form: FileForm, s: Items)
-    requires { Room out.old (cond s.tone (reference_size (form_of form) 2) 0) }
-    ensures { Boxed out.old (cond s.tone (reference_size (form_of form) 2) 0) (given s.tone (reference (form_of form) "dimg" (tone_id s) (colour_grid s ∷ gain_id s ∷ []) ∷ [])) out.new }
-{
-    if s.has_tone() {
-        write_ref(
-            out,
-            form,
-            b"dimg",
-            s.tmap_id(),
-            &[s.color_grid_id(), s.gain_id()],
-        );
-    }
-}
-
-// The gain map's references.
+// The gain map's references. The tone map derives from the colour grid and the gain image.
 pub(crate) fn write_gain_refs(out: &mut Output, form: FileForm, s: Items)
     requires { Room out.old (gain_references_size (form_of form) s) }
     ensures { Boxed out.old (gain_references_size (form_of form) s) (gain_references (form_of form) s) out.new }
 {
     write_image_refs(out, form, s);
-    write_tone_ref(out, form, s);
+    let sources = [s.color_grid_id(), s.gain_id()];
+    write_given_ref(out, form, b"dimg", s.tone(), &sources);
 }

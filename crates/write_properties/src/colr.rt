@@ -9,7 +9,9 @@ ghost use Rattle.heif.specs.Colr.{nclx_payload, first_colr, second_colr, alterna
 ghost use Rattle.heif.specs.Colr.{nclx_size, profile_size, first_colr_size, second_colr_size, alternates_size};
 
 use octets::{Output, size_of};
+use panel::coded::Coded;
 use panel::color::{Cicp, ColorMetadata};
+use panel::when::when;
 
 // By code points.
 pub(crate) fn write_colr_nclx(out: &mut Output, enc: Cicp)
@@ -21,7 +23,7 @@ pub(crate) fn write_colr_nclx(out: &mut Output, enc: Cicp)
     out.w16(enc.primaries.code());
     out.w16(enc.transfer.code());
     out.w16(enc.matrix.code());
-    out.w8(if enc.full_range { 0x80 } else { 0x00 });
+    out.w8(when(enc.full_range, 0x80) as u8);
 }
 
 // By a profile.

@@ -25,12 +25,11 @@ struct TonePicture {
     bits: u8,
 }
 
-impl TonePicture {
-    // As large as the turned grid, and of at least 10 bits.
-    fn of(panel: &Panel) -> TonePicture
-        ensures size { ispe result.w result.h ≡ tone_ispe panel.now.dims panel.now.metadata.orientation }
-        ensures bits { result.bits ≡ max (bits panel.now.bit_depth) 10 }
-    {
+// As large as the turned grid, and of at least 10 bits.
+impl From<&Panel<'_>> for TonePicture {
+    ghost from_gives = { λ panel t. record { size : ispe t.w t.h ≡ tone_ispe panel.now.dims panel.now.metadata.orientation; bits : t.bits ≡ max (bits panel.now.bit_depth) 10 } };
+
+    fn from(panel: &Panel<'_>) -> TonePicture {
         let dims = panel.dims;
         let is_turned = panel.metadata.orientation.irot_steps() % 2 == 1;
         let (w, h) = if is_turned {
@@ -78,6 +77,6 @@ pub(crate) fn write_ipco(out: &mut Output, panel: &Panel)
 {
     if let Some(g) = &panel.gain_map {
         write_image_properties(out, g);
-        write_tone_properties(out, g, TonePicture::of(panel));
+        write_tone_properties(out, g, TonePicture::from(panel));
     }
 }

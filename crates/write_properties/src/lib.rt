@@ -1,4 +1,4 @@
-// One writer for each property, by value; and ipco, which holds them.
+// One writer for each property, and ipco, which holds them.
 //
 // Each writes into an output, behind what is written there already.
 

@@ -15,7 +15,7 @@ returns-then-length-gt4294967295-clause-planned c =
     let f = form_of c.args.form in
     let p = panel_of c.args.panel.now in
     let passed = c.in_ok-items.ensures in
-    let long = c.file_size-length.ensures.whole f p (c.sizes_of-sizes.ensures passed.items c.places_of-places.ensures.placed) in
+    let long = c.file_size-length.ensures.whole f p (c.sizes_of-sizes.ensures.sized passed.items c.places_of-places.ensures.placed) in
     let whole = length-file f p passed.even in
     rw (passed.left, lt-ltb 4294967295 (length (file f p)) (omega (arith, long, whole, c.if-length-gt4294967295.true)))
 
@@ -24,13 +24,14 @@ returns-clause-planned c =
     let f = form_of c.args.form in
     let p = panel_of c.args.panel.now in
     let passed = c.in_ok-items.ensures in
-    let sized = c.sizes_of-sizes.ensures passed.items c.places_of-places.ensures.placed in
+    let sized = c.sizes_of-sizes.ensures.sized passed.items c.places_of-places.ensures.placed in
     let long = c.file_size-length.ensures.whole f p sized in
     let whole = length-file f p passed.even in
     record {
       accepted = rw (passed.left, le-ltb 4294967295 (length (file f p)) (omega (arith, long, whole, c.if-length-gt4294967295.false)));
       long = omega (arith, long, whole);
-      laid = c.placed.ensures f passed.even passed.items sized;
+      items = passed.items;
+      laid = c.placed.ensures f passed.even sized;
       placed = c.places_of-places.ensures.placed;
       count = c.places_of-places.ensures.count_bound;
       few = c.places_of-places.ensures.few;

@@ -22,12 +22,11 @@ use Rattle.plan_layout.proofs.placed.Goals as goal
 pub returns : goal.returns
 unfolding panel_of
 returns c =
-    λ f even items s.
+    λ f even s.
     let p = panel_of c.args.panel.now in
     let at = data_at f p in
     let begins : c.args.z.ftyp + c.args.z.meta + 8 ≡ at = omega (arith, s.ftyp, s.meta, data_at-size f p even) in
     record {
-      items = items;
       ftyp = omega (arith, s.ftyp, length-head p);
       iloc = omega (arith, s.iloc, length-iloc f at p even);
       iinf = omega (arith, s.iinf, length-iinf f (shape p));

@@ -24,9 +24,9 @@ returns c =
     let p = c.args.payloads in
     let cs = c.args.color.now in
     let ls = c.args.alpha.now in
-    let color = rw (c.color_grid_id.ensures, c.requires.color_tiles) at c.write_picture_locations.ensures in
-    let alpha = rw (c.alpha_tile_base.ensures, c.alpha_grid_id.ensures, c.requires.alpha_tiles) at c.write_picture_locations-2.ensures in
-    let entries = told (color ▹ alpha ▹ c.write_other_locations.ensures) (entries_joined f s p cs ls) refl in
+    let color = rw (c.color-color_ids.ensures.first, c.color-color_ids.ensures.grid, c.requires.color_tiles) at c.write_picture_locations.ensures in
+    let alpha = rw (c.alpha-alpha_ids.ensures.first, c.alpha-alpha_ids.ensures.grid, c.requires.alpha_tiles) at c.write_picture_locations-2.ensures in
+    let entries = told (color ▹ alpha ▹ c.write_other_locations.ensures) (entries_joined f s p cs ls c.requires.toned) refl in
     let n = length-placed s p cs ls c.requires.color_tiles c.requires.alpha_tiles in
     let count = told c.write_count.ensures (ap (be f.count) (c.last_id.ensures.value ∙ sym n)) refl in
     retold (full_boxed "iloc" (1 + f.step) 0 c.write_item_box.ensures (c.w16.ensures ▹ count ▹ entries) (c.requires.whole ∙ sym (whole f s))) refl (whole f s)

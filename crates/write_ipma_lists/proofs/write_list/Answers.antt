@@ -7,15 +7,15 @@ use Rattle.plan_runs.proofs.Listed.{listed-drop, listed_end, length-listed-drop}
 use Rattle.write_ipma_lists.proofs.write_list.Goals as goal
 
 pub write_run-requires : goal.write_run-requires
-write_run-requires c = omega (arith, length-listed-drop c.args.list.now c.loop-run-test.true c.loop-run-item.is)
+write_run-requires c = omega (arith, length-listed-drop c.args.list.now c.loop-associated-test.true c.associated-item.is)
 
-pub loop-run-preserved : goal.loop-run-preserved
-loop-run-preserved c =
+pub loop-associated-preserved : goal.loop-associated-preserved
+loop-associated-preserved c =
     let l = c.args.list.now in
-    let size = length-listed-drop l c.loop-run-test.true c.loop-run-item.is in
-    (turn c.loop-run.invariant.0 c.write_run.ensures (listed-drop l c.loop-run-test.true c.loop-run-item.is) size, omega (arith, c.write_run.ensures.end, c.write_run.ensures.kept))
+    let size = length-listed-drop l c.loop-associated-test.true c.associated-item.is in
+    (turn c.loop-associated.invariant.0 c.write_run.ensures (listed-drop l c.loop-associated-test.true c.associated-item.is) size, omega (arith, c.write_run.ensures.end, c.write_run.ensures.kept))
 
 pub returns : goal.returns
 returns c =
-    let none = listed_end c.args.list.now c.loop-run-test.false in
-    paid c.loop-run.invariant.0 none (ap length none)
+    let none = listed_end c.args.list.now c.loop-associated-test.false in
+    paid c.loop-associated.invariant.0 none (ap length none)

@@ -6,7 +6,7 @@ use Rattle.write_ipma_lists.proofs.write_run.Goals as goal
 
 pub loop-position-preserved : goal.loop-position-preserved
 loop-position-preserved c =
-    let more = between_more c.args.is_essential _ _ _ c.mark_of-mark.ensures.value c.loop-position-test.true (omega arith) in
+    let more = between_more c.args.is_essential _ _ _ c.when-mark.ensures.value c.loop-position-test.true (omega arith) in
     (turn c.loop-position.invariant.0 c.w8.ensures more (omega arith), omega (arith, c.w8.ensures.end, c.w8.ensures.kept))
 
 pub returns : goal.returns

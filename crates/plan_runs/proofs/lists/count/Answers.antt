@@ -5,10 +5,10 @@ use lib.ListN.{length}
 use Rattle.plan_runs.proofs.Listed.{listed_end, length-listed-drop}
 use Rattle.plan_runs.proofs.lists.count.Goals as goal
 
-pub loop-run-preserved : goal.loop-run-preserved
-loop-run-preserved c =
-    let rest = length-listed-drop c.args.list.now c.loop-run-test.true c.loop-run-item.is in
+pub loop-associated-preserved : goal.loop-associated-preserved
+loop-associated-preserved c =
+    let rest = length-listed-drop c.args.list.now c.loop-associated-test.true c.associated-item.is in
     record { value = omega arith; upper_bound = omega arith }
 
 pub returns-clause-value : goal.returns-clause-value
-returns-clause-value c = omega (arith, ap length (listed_end c.args.list.now c.loop-run-test.false))
+returns-clause-value c = omega (arith, ap length (listed_end c.args.list.now c.loop-associated-test.false))

@@ -5,5 +5,5 @@ use lib.ListN.{length, drop}
 use Rattle.plan_runs.specs.Lists.{listed}
 use Rattle.plan_runs.proofs.lists.count.Given as goal
 
-abbrev pub invariant-loop-run : goal.invariant-loop-run
-invariant-loop-run l = record { value : l.n + length (listed (drop l.run-index l.list)) ≡ length (listed l.list); upper_bound : l.n ≤ 127 * l.run-index }
+abbrev pub invariant-loop-associated : goal.invariant-loop-associated
+invariant-loop-associated l = record { value : l.n + length (listed (drop l.associated-index l.list)) ≡ length (listed l.list); upper_bound : l.n ≤ 127 * l.associated-index }

@@ -1,11 +1,7 @@
--- Length by length: those put so far and those in the bytes that are left are all.
-use Rattle.std.proofs.Common.{◌≡◌, ◌+◌, ◌*◌, ◌-◌, ◌++◌, length, take}
-use Rattle.sheet_fields.specs.Fields.{words}
+-- Word by word: the front of the list is the numbers of the words so far.
+use Rattle.std.proofs.Common.{◌≡◌, map, take}
+use Rattle.std.specs.Int.{w32, from_be_bytes}
 use Rattle.sheet_fields.proofs.SheetReader.lengths.Given as goal
 
-abbrev pub invariant-loop-length : goal.invariant-loop-length
-invariant-loop-length l = record {
-  size : length l.front ≡ l.n;
-  left : length l.words.left.now + 4 * l.length-index ≡ 4 * l.n;
-  all : take l.length-index l.front ++ words (l.n - l.length-index) l.words.left.now ≡ words l.n l.initial.words.left.now;
-}
+abbrev pub invariant-loop-i : goal.invariant-loop-i
+invariant-loop-i l = take l.i l.list ≡ map (from_be_bytes w32) (take l.i l.words)

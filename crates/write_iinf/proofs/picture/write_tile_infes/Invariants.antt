@@ -12,4 +12,4 @@ abbrev pub print : Form → ℕ → List ℕ
 print f id = boxes (infe f 1 id "hvc1" [] ∷ [])
 
 abbrev pub invariant-loop-id : goal.invariant-loop-id
-invariant-loop-id l = Printed (print (form_of l.form)) (infe_size (form_of l.form)) l.initial.out l.initial.id l.id l.out
+invariant-loop-id l = Printed (print (form_of l.form)) (infe_size (form_of l.form)) l.initial.out l.fn.ids l.id-iterator l.out

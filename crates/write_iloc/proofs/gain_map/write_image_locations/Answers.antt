@@ -13,4 +13,4 @@ returns-then-has_gain c =
     rw (← c.if-has_gain.ensures) (told both refl (omega arith))
 
 pub returns-else-has_gain : goal.returns-else-has_gain
-returns-else-has_gain c = rw (← c.if-has_gain.ensures) (told nothing (entries_none (form_of c.args.form) (gain_id c.args.s) c.args.offset) refl)
+returns-else-has_gain c = rw (← c.if-has_gain.ensures) (told nothing (entries_none (form_of c.args.form) (gain_id c.args.s) c.args.gain.offset) refl)

@@ -10,4 +10,4 @@ abbrev pub invariant-loop-id : goal.invariant-loop-id
 invariant-loop-id l =
     let form = form_of l.form in
     let list = listed l.list in
-    Printed (λ id. association form (id with list)) (association_size form (length list)) l.initial.out l.initial.id l.id l.out
+    Printed (λ id. association form (id with list)) (association_size form (length list)) l.initial.out l.fn.ids l.id-iterator l.out

@@ -1,29 +1,35 @@
 -- The head, and then a turn for each id.
-use mathlib.Core.Path.{◌≡◌, refl, sym}
+use mathlib.Core.Path.{◌≡◌, refl}
+use mathlib.Core.List.{flat_map}
+use Prim.Native.Nat.{◌+◌}
+use native.Mathlib.Nat.{mul-suc, mul-zero}
 use native.Mathlib.Omega.{arith}
-use lib.ListN.{length, length-map}
-use Rattle.octets.specs.Numbers.{be}
-use Rattle.octets.proofs.Lists.{flat_map-map}
-use Rattle.octets.proofs.Stores.{told}
+use lib.ListN.{length, length-map, drop}
+use lib.Seq.{drop-length}
+use Rattle.octets.proofs.Stores.{turn, paid}
 use Rattle.panel.specs.Form.{form_of}
-use Rattle.panel.specs.declared.WideItemId.{WideItemId}
 use Rattle.write_iref.specs.References.{numbers}
-use Rattle.write_iref.proofs.References.{referred, begun, room, turned, ended}
+use Rattle.write_iref.proofs.References.{referred, left}
 use Rattle.write_iref.proofs.reference.write_ref.Goals as goal
 
-pub loop-id-init : goal.loop-id-init
-loop-id-init c = begun
-
 pub write_id-requires : goal.write_id-requires
-write_id-requires c = room c.loop-id.invariant c.loop-id-test.true (omega arith)
+write_id-requires c =
+    let room = rw (left c.args.to.now c.loop-id-test.true) at c.loop-id.invariant.1 in
+    omega (arith, room, mul-suc (form_of c.args.form).id (length (drop (c.loop-id.id-index + 1) c.args.to.now)))
 
 pub loop-id-preserved : goal.loop-id-preserved
-loop-id-preserved c = turned _ c.loop-id.invariant c.loop-id-test.true c.write_id.ensures
+unfolding flat_map
+loop-id-preserved c =
+    let more = mul-suc (form_of c.args.form).id (length (drop (c.loop-id.id-index + 1) c.args.to.now)) in
+    let before = rw (left c.args.to.now c.loop-id-test.true) at c.loop-id.invariant in
+    (turn before.0 c.write_id.ensures refl (omega (arith, more)), omega (arith, before.1, more, c.write_id.ensures.end, c.write_id.ensures.kept))
 
 pub returns : goal.returns
+unfolding flat_map
 returns c =
     let f = form_of c.args.form in
     let ids = c.args.to.now in
-    let all = told (ended c.loop-id.invariant (omega arith)) (sym (flat_map-map (be f.id) (λ (id : WideItemId). id.0) ids)) refl in
+    let e : c.loop-id.id-index ≡ length ids = omega arith in
+    let all = paid (rw (e, drop-length) at c.loop-id.invariant.0) refl (mul-zero f.id) in
     let count : length ids ≡ length (numbers ids) = simp length-map in
     referred f c.args.kind.now c.args.from.0 (numbers ids) c.write_ref_head.ensures all c.told-kind count

@@ -1,14 +1,16 @@
--- Each turn writes one id more.
-use mathlib.Core.List.{List}
-use Prim.Native.Nat.{ℕ}
+-- The ids that are still to come are owed.
+use Prim.Native.Nat.{◌*◌}
+use mathlib.Core.List.{flat_map}
+use lib.ListN.{length, drop}
 use Rattle.octets.specs.Numbers.{be}
-use Rattle.panel.specs.Form.{Form, form_of}
-use Rattle.panel.specs.declared.WideItemId.{WideItemId}
-use Rattle.write_iref.proofs.References.{Taken}
+use Rattle.octets.specs.Stores.{Room}
+use Rattle.octets.proofs.Stores.{Owes}
+use Rattle.panel.specs.Form.{form_of}
+use Rattle.write_iref.specs.References.{numbers}
 use Rattle.write_iref.proofs.reference.write_ref.Given as goal
 
-abbrev pub print : Form → WideItemId → List ℕ
-print f id = be f.id id.0
-
 abbrev pub invariant-loop-id : goal.invariant-loop-id
-invariant-loop-id l = Taken (print (form_of l.form)) (form_of l.form).id l.initial.out l.to l.id-index l.out
+invariant-loop-id l =
+    let k = (form_of l.form).id in
+    let rest = drop l.id-index l.to in
+    Owes l.initial.out (k * length l.to) (flat_map (be k) (numbers l.to)) l.out (k * length rest) (flat_map (be k) (numbers rest)) × Room l.out (k * length rest)

@@ -9,5 +9,5 @@ use Rattle.write_iref.proofs.reference.write_ref_head.Goals as goal
 
 pub returns : goal.returns
 returns c =
-    let size : 10 + c.ids_bytes.result ≡ reference_size (form_of c.args.form) c.args.n = omega arith in
+    let size : 10 + c.ids_bytes.result ≡ reference_size (form_of c.args.form) c.args.n = omega (arith, rw c.from.ensures at c.ids_bytes.ensures.value) in
     told (rw size at c.write_box.ensures ▹ c.write_id.ensures ▹ c.w16.ensures) refl (omega arith)

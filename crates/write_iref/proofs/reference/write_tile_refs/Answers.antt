@@ -9,6 +9,6 @@ use Rattle.write_iref.proofs.reference.write_tile_refs.Goals as goal
 
 pub returns : goal.returns
 returns c =
-    let first = c.args.first.0 in
-    let n = c.args.n in
-    referred (form_of c.args.form) (text "dimg") c.args.grid.0 (ids_from first n) c.write_ref_head.ensures c.write_ids.ensures refl (sym (length-ids_from first n))
+    let first = c.args.picture.tiles.first.0 in
+    let n = c.args.picture.tiles.count in
+    referred (form_of c.args.form) (text "dimg") c.args.picture.grid.0 (ids_from first n) c.write_ref_head.ensures c.write_ids.ensures refl (sym (length-ids_from first n))

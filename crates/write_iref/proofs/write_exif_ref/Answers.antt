@@ -1,6 +1,0 @@
--- One reference, or none.
-use Rattle.octets.proofs.Stores.{no_boxes}
-use Rattle.write_iref.proofs.write_exif_ref.Goals as goal
-
-pub returns-else-has_exif : goal.returns-else-has_exif
-returns-else-has_exif c = rw (← c.if-has_exif.ensures) no_boxes
