@@ -20,8 +20,8 @@ pub enum Primaries {
     Ebu3213 = 22,
 }
 
-// Transfer characteristics (ISO/IEC 23091-2, table 3), each with its code point. It and the next are two tables of the
-// standard, whose numbers name other things.
+// Transfer characteristics (ISO/IEC 23091-2, table 3), each with its code point. It and the next are two tables of the standard, whose
+// numbers name other things.
 #[derive(Clone, Copy)]
 pub enum TransferFunction {
     Reserved = 0,
