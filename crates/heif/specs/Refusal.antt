@@ -3,6 +3,7 @@ use Rattle.std.specs.Prelude.{Bool, true, false, ◌||◌, not, List, [], ◌∷
 use Rattle.octets.specs.Numbers.{◌‖◌, total}
 use Rattle.panel.specs.Panel.{Tiles, Panel}
 use Rattle.panel.specs.Form.{Form}
+use Rattle.panel.specs.declared.GridDims.{GridDims}
 use Rattle.panel.specs.declared.Shape.{Shape}
 use Rattle.heif.specs.Items.{shape, last_id}
 use Rattle.heif.specs.File.{file}
@@ -12,6 +13,14 @@ bad_side n = ltb n 1 || ltb 256 n
 
 abbrev pub bad_grid : ℕ → ℕ → Bool
 bad_grid rows cols = bad_side rows || bad_side cols
+
+-- 23008-12, 6.6.2.3, along one axis: a size is 0, or n tiles of a size are less than the full size
+abbrev pub bad_axis : ℕ → ℕ → ℕ → Bool
+bad_axis n tile full = eqb tile 0 || eqb full 0 || ltb (n * tile) full
+
+-- a size is 0, or the tiles don't cover the picture
+abbrev pub bad_cover : GridDims → Bool
+bad_cover d = bad_axis d.cols d.tile_w d.full_w || bad_axis d.rows d.tile_h d.full_h
 
 abbrev pub differ : ℕ → ℕ → Bool
 differ m n = not (eqb m n)
@@ -47,10 +56,11 @@ abbrev pub first : List Check → ℕ
 first [] = 0
 first (c ∷ l) = elim (c.holds tt) [ true ↦ c.number | false ↦ first l ]
 
--- the checks of a panel whose file has n bytes
+-- the checks of a panel whose file has n bytes, in the order in which they are made
 abbrev pub checks : Form → ℕ → Panel → List Check
 checks f n p =
     check 1 (λ _. bad_grid p.dims.rows p.dims.cols)
+    ∷ check 8 (λ _. bad_cover p.dims)
     ∷ check 2 (λ _. bad_counts (p.dims.rows * p.dims.cols) (length p.tiles.lengths) (length p.alpha.lengths))
     ∷ check 3 (λ _. bad_sum p.tiles || bad_sum p.alpha)
     ∷ check 4 (λ _. bad_items f (shape p))

@@ -1,4 +1,5 @@
 pub mod Panels
 pub mod Trials
+pub mod Sizes
 pub mod Table
 pub mod Wrong

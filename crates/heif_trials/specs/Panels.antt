@@ -2,17 +2,18 @@
 use Rattle.std.specs.Prelude.{Option, None, Some, List, [], ◌∷◌, ℕ, replicate}
 use Rattle.panel.specs.Panel.{Colour, Metadata, Gain, Panel}
 use Rattle.panel.specs.Types.{unspecified}
+use Rattle.panel.specs.declared.GridDims.{GridDims}
 use Rattle.panel.specs.declared.fmt.BitDepth.{BitDepth}
 use Rattle.panel.specs.declared.fmt.BitDepth.TheVariants.{Eight}
 use Rattle.panel.specs.declared.metadata.ContentLightLevel.{ContentLightLevel}
 use Rattle.panel.specs.declared.metadata.Orientation.{Orientation}
 use Rattle.panel.specs.declared.metadata.Orientation.TheVariants.{Normal, Transpose}
 
--- one column of so many rows, a picture so wide, each colour sample the byte c and each alpha sample BB
+-- one column of so many rows, a picture as wide as its tiles, each colour sample the byte c and each alpha sample BB
 abbrev pub column : ℕ → ℕ → ℕ → Colour → Metadata → Option Gain → Panel
 column rows width c colour metadata gain =
     record {
-      dims = record { cols = 1; rows = rows; tile_w = 64; tile_h = 64; full_w = width; full_h = 64 };
+      dims = record { cols = 1; rows = rows; tile_w = width; tile_h = 64; full_w = width; full_h = 64 };
       depth = Eight;
       alpha_depth = Eight;
       tiles = record { hvcc = 0x01 ∷ 0x01 ∷ []; lengths = replicate rows 1; bytes = replicate rows c };
@@ -34,7 +35,7 @@ plain = said Normal None None
 abbrev pub panel_p : Panel
 panel_p = column 1 64 0xAA unstated plain None
 
--- P with so many rows, or so wide
+-- P with so many rows, or so wide, its tile too
 abbrev pub panel_p_rows : ℕ → Panel
 panel_p_rows n = column n 64 0xAA unstated plain None
 
@@ -64,6 +65,15 @@ panel_p_tone =
       tone = Some [];
       alternate = None;
     }))
+
+-- the panel with another grid
+abbrev pub on_grid : GridDims → Panel → Panel
+on_grid d p = record { dims = d; depth = p.depth; alpha_depth = p.alpha_depth; tiles = p.tiles; alpha = p.alpha; colour = p.colour; metadata = p.metadata; gain = p.gain }
+
+-- P with other sizes, of its tile and of its picture
+abbrev pub panel_p_sized : ℕ → ℕ → ℕ → ℕ → Panel
+panel_p_sized tile_w tile_h full_w full_h =
+    on_grid (record { cols = 1; rows = 1; tile_w = tile_w; tile_h = tile_h; full_w = full_w; full_h = full_h }) panel_p
 
 -- the panel with other depths, of colour and alpha
 abbrev pub at_depths : BitDepth → BitDepth → Panel → Panel

@@ -1,18 +1,10 @@
--- The lettered trials, (a) to (k), and those of the Exif's marker and of the alpha depth, in one table.
-use Rattle.std.specs.Prelude.{List, [], ◌∷◌, ℕ}
+-- The lettered trials, (a) to (k), with those of the Exif's marker and of the alpha depth, in one table with those of sizes.
+use Rattle.std.specs.Prelude.{List, [], ◌∷◌}
 use Rattle.octets.specs.Numbers.{◌‖◌, be, text}
-use Rattle.panel.specs.Outcome.{made, refused}
-use Rattle.panel.specs.Panel.{Panel}
 use Rattle.panel.specs.declared.fmt.BitDepth.TheVariants.{Eight, Twelve}
 use Rattle.heif_trials.specs.Panels
-use Rattle.heif_trials.specs.Trials.{Shown, box_at, bytes_at, item, payload, property, associated, Trial}
-
--- exactly enough room
-abbrev fits : Panel → ℕ → List Shown → Trial
-fits p n l = record { panel = p; room = n; answer = made n; shows = l }
-
-abbrev refuses : Panel → ℕ → ℕ → Trial
-refuses p room k = record { panel = p; room = room; answer = refused k; shows = [] }
+use Rattle.heif_trials.specs.Trials.{box_at, bytes_at, item, payload, property, associated, Trial, fits, refuses}
+use Rattle.heif_trials.specs.Sizes.{sizes}
 
 -- (a) P: the brand, the twelve boxes, and the two samples
 abbrev pub a : Trial
@@ -39,7 +31,7 @@ a =
 abbrev pub b : Trial
 b = refuses Panels.panel_p 555 6
 
--- (c) P, full_w 65,535: both descriptors in 16 bits
+-- (c) P, tile_w and full_w 65,535: both descriptors in 16 bits
 abbrev pub c : Trial
 c =
     fits (Panels.panel_p_wide 65535) 556
@@ -48,7 +40,7 @@ c =
     ∷ bytes_at 538 (0x00 ∷ 0x00 ∷ 0x00 ∷ 0x00 ∷ 0xFF ∷ 0xFF ∷ 0x00 ∷ 0x40 ∷ [])
     ∷ [])
 
--- (d) P, full_w 65,536: both in 32 bits
+-- (d) P, tile_w and full_w 65,536: both in 32 bits
 abbrev pub d : Trial
 d =
     fits (Panels.panel_p_wide 65536) 564
@@ -127,4 +119,4 @@ k_alpha_twelve =
     ∷ [])
 
 abbrev pub table : List Trial
-table = a ∷ b ∷ c ∷ d ∷ e ∷ f ∷ g ∷ h ∷ h_marked ∷ h_cut ∷ h_late ∷ i ∷ j ∷ k ∷ k_alpha_eight ∷ k_alpha_twelve ∷ []
+table = a ∷ b ∷ c ∷ d ∷ e ∷ f ∷ g ∷ h ∷ h_marked ∷ h_cut ∷ h_late ∷ i ∷ j ∷ k ∷ k_alpha_eight ∷ k_alpha_twelve ∷ sizes

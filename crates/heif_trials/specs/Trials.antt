@@ -34,6 +34,13 @@ pub record Trial : Type 0 where
   pub answer : Outcome
   pub shows : List Shown
 
+-- exactly enough room
+abbrev pub fits : Panel → ℕ → List Shown → Trial
+fits p n l = record { panel = p; room = n; answer = made n; shows = l }
+
+abbrev pub refuses : Panel → ℕ → ℕ → Trial
+refuses p room k = record { panel = p; room = room; answer = refused k; shows = [] }
+
 -- ---- tests
 
 abbrev pub same : List ℕ → List ℕ → Bool

@@ -118,11 +118,13 @@ pub struct Panel<'a> {
     pub gain_map: Option<EncodedGainMap<'a>>,
 }
 
-// Why a panel is refused, each by the number of its check. Of several the first counts, in the order of the numbers.
+// Why a panel is refused, each by the number of its check, in the order in which they are made: 1, 8, 2 to 6. Of several the first counts.
 #[derive(Clone, Copy)]
 pub enum Refusal {
     // Rows or columns are 0 or above 256.
     GridSide = 1,
+    // A size of a tile or of the whole picture is 0, or the tiles don't cover the picture.
+    Cover = 8,
     // A list of lengths has not exactly rows × columns entries.
     TileCount = 2,
     // The lengths do not sum to the bytes lent.

@@ -19,7 +19,7 @@ use Rattle.plan.specs.declared.FilePlan.{FilePlan}
 abbrev pub Refused : Form → Panel → Refusal → Type 0
 Refused f p r = refused (number r) ≡ length_answer f p
 
--- none of the first four checks holds, so that the fifth decides, and s is the shape
+-- no check before 5 holds, so that 5 decides, and s is the shape
 pub record Passes (f : Form) (p : Panel) (s : Shape) : Type 0 where
   pub items : s ≡ shape p
   pub even : Even p

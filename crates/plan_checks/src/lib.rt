@@ -1,9 +1,9 @@
-// The checks 1 to 4 of a panel, each of which answers whether it refuses.
+// The checks 1, 8 and 2 to 4 of a panel, each of which answers whether it refuses.
 #![tactic(auto)]
 
 ghost use Rattle.std.specs.Prelude.{◌≡◌, ◌||◌, ◌*◌};
 ghost use Rattle.panel.specs.Form.{form_of};
-ghost use Rattle.heif.specs.Refusal.{bad_side, bad_grid, bad_counts, bad_id, bad_items};
+ghost use Rattle.heif.specs.Refusal.{bad_side, bad_grid, bad_axis, bad_cover, bad_counts, bad_id, bad_items};
 ghost use Rattle.heif.specs.Items.{last_id};
 ghost use Rattle.plan_checks.specs.Sums.{bad_samples};
 
@@ -23,6 +23,21 @@ pub fn bad_grid(dims: GridDims) -> bool
     ensures { result ≡ bad_grid dims.rows dims.cols }
 {
     bad_side(dims.rows) || bad_side(dims.cols)
+}
+
+// Whether along one axis a size is 0, or n tiles of a size are less than the full size.
+fn bad_axis(n: u32, tile: u32, full: u32) -> bool
+    ensures { result ≡ bad_axis n tile full }
+{
+    // 64 bits hold the product of any two numbers of 32.
+    tile == 0 || full == 0 || (n as u64 * tile as u64) < full as u64
+}
+
+// Check 8: a size is 0, or the tiles don't cover the picture.
+pub fn bad_cover(dims: GridDims) -> bool
+    ensures { result ≡ bad_cover dims }
+{
+    bad_axis(dims.cols, dims.tile_w, dims.full_w) || bad_axis(dims.rows, dims.tile_h, dims.full_h)
 }
 
 // Check 2: a list of lengths has not exactly an entry for each tile.

@@ -9,6 +9,9 @@ pub fn words_of(refusal: SheetRefusal) -> &'static str {
         SheetRefusal::Panel(Refusal::GridSide) => {
             "there are no rows or no columns, or more than 256"
         }
+        SheetRefusal::Panel(Refusal::Cover) => {
+            "a size of a tile or of the whole picture is 0, or the tiles do not cover the whole picture"
+        }
         SheetRefusal::Panel(Refusal::OutputLength) => {
             "the room for the file is too short; it is 32,768 bytes here, and docs/SHEET.md says what to do"
         }

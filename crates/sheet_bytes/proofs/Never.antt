@@ -1,4 +1,5 @@
--- No sheet is answered 2, 3, 4 or 5: of the panel that it says, only a side of the grid or the room can be refused.
+-- No sheet is answered 2, 3, 4 or 5: of the panel that it says, only a side of the grid, a picture that its tiles don't cover, or the room
+-- can be refused.
 use mathlib.Core.Path.{◌≡◌, refl, sym, ap, ◌∙◌}
 use mathlib.Core.Bool.{Bool, true, false, ◌||◌, ◌&&◌, not, cond}
 use Rattle.std.specs.Prelude.{Option, None, Some, is_some}
@@ -22,7 +23,7 @@ use Rattle.heif.specs.Idat.{wide}
 use Rattle.heif.specs.Hvcc.{rext}
 use Rattle.heif.specs.Ftyp.{gain_rext}
 use Rattle.heif.specs.File.{file}
-use Rattle.heif.specs.Refusal.{bad_grid, differ, bad_counts, bad_sum, bad_items, too_long, refusal_in}
+use Rattle.heif.specs.Refusal.{bad_grid, bad_cover, differ, bad_counts, bad_sum, bad_items, too_long, refusal_in}
 use Rattle.heif.specs.Answer.{write_answer}
 use Rattle.heif.specs.Ipma.{turn_count}
 use Rattle.heif.proofs.Refusal.{ordinary-items}
@@ -85,9 +86,13 @@ gain_small (Some g) h = omega (arith, h.hvcc, h.sample, h.xmp, tone_small g.tone
 grid_small : (d : GridDims) → shares (grid_extras d) ≤ 8
 grid_small d = given_small (wide d) wide_grid
 
-first_of : (b1 b2 b3 b4 b5 b6 : Bool) → b2 ≡ false → b3 ≡ false → b4 ≡ false → b5 ≡ false
-    → ◌≡◌ {A = ℕ} (elim b1 [ true ↦ 1 | false ↦ elim b2 [ true ↦ 2 | false ↦ elim b3 [ true ↦ 3 | false ↦ elim b4 [ true ↦ 4 | false ↦ elim b5 [ true ↦ 5 | false ↦ elim b6 [ true ↦ 6 | false ↦ 0 ] ] ] ] ] ]) (cond b1 1 (cond b6 6 0))
-first_of b1 b2 b3 b4 b5 b6 e2 e3 e4 e5 = grind arith
+first_of : (b1 b8 b2 b3 b4 b5 b6 : Bool) → b2 ≡ false → b3 ≡ false → b4 ≡ false → b5 ≡ false
+    → ◌≡◌ {A = ℕ} (elim b1 [ true ↦ 1 | false ↦ elim b8 [ true ↦ 8 | false ↦ elim b2 [ true ↦ 2 | false ↦ elim b3 [ true ↦ 3 | false ↦ elim b4 [ true ↦ 4 | false ↦ elim b5 [ true ↦ 5 | false ↦ elim b6 [ true ↦ 6 | false ↦ 0 ] ] ] ] ] ] ]) (cond b1 1 (cond b8 8 (cond b6 6 0)))
+first_of b1 b8 b2 b3 b4 b5 b6 e2 e3 e4 e5 = grind arith
+
+-- by the checks that can hold of a panel that a sheet says
+abbrev by_three : Panel → ℕ → ℕ
+by_three p room = cond (bad_grid p.dims.rows p.dims.cols) 1 (cond (bad_cover p.dims) 8 (cond (ltb room (length (file ordinary p))) 6 0))
 
 module _ (p : Panel) (b : Bounded p) where
   even : Even p
@@ -150,15 +155,15 @@ module _ (p : Panel) (b : Bounded p) where
   neither : {x y : Bool} → x ≡ false → y ≡ false → (x || y) ≡ false
   neither {x} {y} e f = ap (λ z. z || y) e ∙ f
 
-  -- only check 1 and check 6 can hold
-  pub only : (room : ℕ) → refusal_in ordinary room p ≡ cond (bad_grid p.dims.rows p.dims.cols) 1 (cond (ltb room (length (file ordinary p))) 6 0)
+  -- only 1, 8 and 6 can hold
+  pub only : (room : ℕ) → refusal_in ordinary room p ≡ by_three p room
   unfolding refusal_in
   only room =
       let e2 : bad_counts (p.dims.rows * p.dims.cols) (length p.tiles.lengths) (length p.alpha.lengths) ≡ false = neither (alike b.pictures.colour.count) (alike b.pictures.alpha.count) in
       let e3 : (bad_sum p.tiles || bad_sum p.alpha) ≡ false = neither (alike b.pictures.colour.sum) (alike b.pictures.alpha.sum) in
       let e4 : bad_items ordinary (shape p) ≡ false = ordinary-items (shape p) ∙ le-ltb 65535 (last_id (shape p)) (omega (arith, id_small)) in
       let e5 : too_long (length (file ordinary p)) ≡ false = le-ltb _ _ file_small in
-      first_of (bad_grid p.dims.rows p.dims.cols) _ _ _ _ (ltb room (length (file ordinary p))) e2 e3 e4 e5
+      first_of (bad_grid p.dims.rows p.dims.cols) (bad_cover p.dims) _ _ _ _ (ltb room (length (file ordinary p))) e2 e3 e4 e5
 
 -- ---- the sheet
 
@@ -171,16 +176,16 @@ module _ (s rest : List ℕ) (p : Panel) (e : sheet s ≡ got p rest) where
       go true h e = cc
       go false h e = (a-panel.yields s rest p (ltb-false 12288 (length s) h) e).0
 
-  -- the panel that a sheet says is refused by 1, by 6, or not at all
-  said-only : (room : ℕ) → refusal_in ordinary room p ≡ cond (bad_grid p.dims.rows p.dims.cols) 1 (cond (ltb room (length (file ordinary p))) 6 0)
+  -- the panel that a sheet says is refused by 1, by 8, by 6, or not at all
+  said-only : (room : ℕ) → refusal_in ordinary room p ≡ by_three p room
   said-only = only p held
 
 stops_late : (s : List ℕ) (k : ℕ) → sheet s ≡ stop k → 11 ≤ k
 unfolding sheet
 stops_late s k e = grind (arith, a-panel.stops)
 
-outside : (b1 b6 : Bool) (size k : ℕ) → outcome (cond b1 1 (cond b6 6 0)) size ≡ refused k → 2 ≤ k → k ≤ 5 → ⊥
-outside b1 b6 size k e l m = grind arith
+outside : (b1 b8 b6 : Bool) (size k : ℕ) → outcome (cond b1 1 (cond b8 8 (cond b6 6 0))) size ≡ refused k → 2 ≤ k → k ≤ 5 → ⊥
+outside b1 b8 b6 size k e l m = grind arith
 
 -- no sheet is answered 2, 3, 4 or 5
 pub never : (s : List ℕ) (room k : ℕ) → sheet_answer s room ≡ refused k → 2 ≤ k → k ≤ 5 → ⊥
@@ -188,5 +193,5 @@ unfolding sheet_answer write_answer
 never s room k e l m = go (sheet s) refl e
   where
     go : (r : Read Panel) → sheet s ≡ r → answer_of r room ≡ refused k → ⊥
-    go (got p rest) h e = outside (bad_grid p.dims.rows p.dims.cols) (ltb room (length (file ordinary p))) (length (file ordinary p)) k (ap (λ n. outcome n (length (file ordinary p))) (sym (said-only s rest p h room)) ∙ e) l m
+    go (got p rest) h e = outside (bad_grid p.dims.rows p.dims.cols) (bad_cover p.dims) (ltb room (length (file ordinary p))) (length (file ordinary p)) k (ap (λ n. outcome n (length (file ordinary p))) (sym (said-only s rest p h room)) ∙ e) l m
     go (stop j) h e = let v : j ≡ k = cc in omega (arith, stops_late s j h)
