@@ -1,6 +1,9 @@
 /*
  * Kahopiru: a HEIF file writer whose every byte is proved.
  *
+ * Since 0.5.0 a panel whose tiles do not cover the picture, or one of whose sizes is 0, is refused with 8; before, any
+ * sizes were written.
+ *
  * Since 0.3.0 kahopiru_panel has alpha_bit_depth, right behind bit_depth, and code written for an older version must
  * set it: 0 says 8 bits, so a panel of 10 or 12 bits that leaves it out states an alpha of 8. With
  * panel.alpha_bit_depth = panel.bit_depth the file is what it was. The struct is as long as it was: what was
@@ -73,10 +76,11 @@
  *
  * Refusals
  * --------
- * A panel is refused with the first of these that holds, in the order 13, 1, 2, 3, 4, 5, 6. Where a call refuses,
+ * A panel is refused with the first of these that holds, in the order 13, 1, 8, 2, 3, 4, 5, 6. Where a call refuses,
  * it answers length 0 and the output keeps every byte that it had.
  *
  *   1   rows or cols is 0 or above 256
+ *   8   tile_w, tile_h, full_w or full_h is 0, or cols x tile_w is below full_w, or rows x tile_h below full_h
  *   2   color_lengths or alpha_lengths has not exactly rows x cols entries
  *   3   the colour lengths or the alpha lengths do not sum to the sample bytes lent
  *   4   the last item id would be above 65,535: 2 x rows x cols + 2, and 1 more for Exif, 2 for a gain map, 1 for a
@@ -88,7 +92,7 @@
  *       beside an absent part are not looked at
  *
  * A sheet is refused with 15 if it has more than 12,288 bytes; else with the first of these that its reading meets;
- * else with 1 or 6:
+ * else with 1, 8 or 6, in this order:
  *
  *  11   the sheet ends before its fields do
  *  12   its map has a bit 9 to 15, or 6 without 5, or 7 or 8 without 6
@@ -104,7 +108,7 @@
 /* The version of header and archive, which is the Rust crate's. While the first number is 0, the second rises where a
    file of any panel, a struct, a call, a refusal or what a sheet says changes, and the third where nothing of that
    does. A change of a file's bytes is told first in docs/CHANGES.md. */
-#define KAHOPIRU_VERSION "0.4.0"
+#define KAHOPIRU_VERSION "0.5.0"
 
 #ifdef __cplusplus
 extern "C" {
@@ -120,6 +124,7 @@ enum {
     KAHOPIRU_FILE_LENGTH = 5,
     KAHOPIRU_OUTPUT_LENGTH = 6,
     KAHOPIRU_NO_TILE = 7,
+    KAHOPIRU_COVER = 8,
     KAHOPIRU_SHEET_ENDS = 11,
     KAHOPIRU_SHEET_MAP = 12,
     KAHOPIRU_CODE = 13,
@@ -189,8 +194,8 @@ typedef struct {
 /* The numbers of a panel. Padding between fields is ignored. */
 typedef struct {
     uint32_t cols, rows;     /* tiles across and down: 1 to 256 each */
-    uint32_t tile_w, tile_h; /* size of a tile, in pixels; any numbers, 0 too */
-    uint32_t full_w, full_h; /* size of the whole picture; any numbers, 0 too */
+    uint32_t tile_w, tile_h; /* size of a tile, in pixels: 1 or more */
+    uint32_t full_w, full_h; /* size of the whole picture, in pixels: 1 or more, and no more than the tiles cover */
     uint8_t bit_depth;       /* of the colour picture: 0, 1, 2 for 8, 10, 12 bits */
     uint8_t alpha_bit_depth; /* of the alpha picture, by the same codes; it is not taken from bit_depth */
     uint8_t orientation;     /* 0 to 7 */
@@ -371,6 +376,8 @@ static inline const char *kahopiru_refusal_text(uint32_t refusal) {
         return "the room for the file is too short";
     case KAHOPIRU_NO_TILE:
         return "the item id names no tile";
+    case KAHOPIRU_COVER:
+        return "a size of a tile or of the whole picture is 0, or the tiles do not cover the whole picture";
     case KAHOPIRU_SHEET_ENDS:
         return "the sheet ends before its fields do";
     case KAHOPIRU_SHEET_MAP:

@@ -14,8 +14,8 @@ static const struct {
 } specified[] = {
     {0, KAHOPIRU_ACCEPTED},    {1, KAHOPIRU_GRID_SIDE},    {2, KAHOPIRU_TILE_COUNT},        {3, KAHOPIRU_SAMPLE_LENGTHS},
     {4, KAHOPIRU_ITEM_IDS},    {5, KAHOPIRU_FILE_LENGTH},  {6, KAHOPIRU_OUTPUT_LENGTH},     {7, KAHOPIRU_NO_TILE},
-    {11, KAHOPIRU_SHEET_ENDS}, {12, KAHOPIRU_SHEET_MAP},   {13, KAHOPIRU_CODE},             {14, KAHOPIRU_SHEET_BYTES_LEFT},
-    {15, KAHOPIRU_SHEET_LENGTH},
+    {8, KAHOPIRU_COVER},       {11, KAHOPIRU_SHEET_ENDS},  {12, KAHOPIRU_SHEET_MAP},        {13, KAHOPIRU_CODE},
+    {14, KAHOPIRU_SHEET_BYTES_LEFT}, {15, KAHOPIRU_SHEET_LENGTH},
 };
 
 static const char *text_of(uint32_t refusal) {
@@ -39,10 +39,10 @@ static void numbers_and_texts(void) {
 /* The calls, what the specification lets each refuse with (a bit for each number), and what it has refused with here. */
 enum call { LENGTH, WRITE, TILE, SHEET, CALLS };
 static const uint32_t possible[CALLS] = {
-    [LENGTH] = 1 << 1 | 1 << 2 | 1 << 3 | 1 << 4 | 1 << 5 | 1 << 13,
-    [WRITE] = 1 << 1 | 1 << 2 | 1 << 3 | 1 << 4 | 1 << 5 | 1 << 6 | 1 << 13,
+    [LENGTH] = 1 << 1 | 1 << 8 | 1 << 2 | 1 << 3 | 1 << 4 | 1 << 5 | 1 << 13,
+    [WRITE] = 1 << 1 | 1 << 8 | 1 << 2 | 1 << 3 | 1 << 4 | 1 << 5 | 1 << 6 | 1 << 13,
     [TILE] = 1 << 2 | 1 << 3 | 1 << 4 | 1 << 7,
-    [SHEET] = 1 << 1 | 1 << 6 | 1 << 11 | 1 << 12 | 1 << 13 | 1 << 14 | 1 << 15,
+    [SHEET] = 1 << 1 | 1 << 8 | 1 << 6 | 1 << 11 | 1 << 12 | 1 << 13 | 1 << 14 | 1 << 15,
 };
 static uint32_t met[CALLS];
 static int refused_calls = 0;
@@ -97,6 +97,47 @@ static void sides(const given *p) {
     refused(&g, KAHOPIRU_GRID_SIDE, "no columns");
     g.panel.cols = 257;
     refused(&g, KAHOPIRU_GRID_SIDE, "257 columns");
+}
+
+/* Two rows of three tiles, each size in turn too large by one, or 0; and panels at which two checks hold. */
+static void sizes(const given *p) {
+    static const uint32_t zeros[6], two[] = {1, 0};
+    given g = *p;
+    g.color_samples = g.alpha_samples = nothing;
+    g.color_lengths = g.alpha_lengths = (numbers){zeros, 6};
+    g.panel.cols = 3;
+    g.panel.rows = 2;
+    g.panel.full_w = 3 * g.panel.tile_w;
+    g.panel.full_h = 2 * g.panel.tile_h;
+    const given covered = g;
+    expect(by->length(&g).refusal == KAHOPIRU_ACCEPTED, "tiles that just cover the picture", "it is accepted");
+    g.panel.full_w++;
+    refused(&g, KAHOPIRU_COVER, "a picture one wider than its tiles");
+    g = covered;
+    g.panel.full_h++;
+    refused(&g, KAHOPIRU_COVER, "a picture one higher than its tiles");
+    g = covered;
+    g.panel.tile_w = 0;
+    refused(&g, KAHOPIRU_COVER, "tiles of no width");
+    g = covered;
+    g.panel.tile_h = 0;
+    refused(&g, KAHOPIRU_COVER, "tiles of no height");
+    g = covered;
+    g.panel.full_w = 0;
+    refused(&g, KAHOPIRU_COVER, "a picture of no width");
+    g = covered;
+    g.panel.full_h = 0;
+    refused(&g, KAHOPIRU_COVER, "a picture of no height");
+    g = covered;
+    g.panel.tile_w = g.panel.full_w = UINT32_MAX;
+    expect(by->length(&g).refusal == KAHOPIRU_ACCEPTED, "tiles that reach beyond 32 bits", "it is accepted");
+
+    g = *p;
+    g.panel.full_w = 65;
+    g.color_lengths = (numbers){two, 2};
+    refused(&g, KAHOPIRU_COVER, "a picture too wide and a colour length too many: 8 before 2");
+    g.panel.cols = 0;
+    refused(&g, KAHOPIRU_GRID_SIDE, "a picture too wide and no columns: 1 before 8");
 }
 
 static void lists(const given *p) {
@@ -231,6 +272,8 @@ static void sheets(void) {
     refused_sheet((bytes){changed, P_BYTES + 1}, ROOM, KAHOPIRU_SHEET_BYTES_LEFT, "P's sheet and one byte more");
     with_byte(3, 0);
     refused_sheet((bytes){changed, P_BYTES - 10}, ROOM, KAHOPIRU_GRID_SIDE, "P's sheet with no columns");
+    refused_sheet(with_byte(17, 65), ROOM, KAHOPIRU_COVER, "P's sheet with a picture of 65 pixels across");
+    refused_sheet(with_byte(9, 0), 555, KAHOPIRU_COVER, "P's sheet with tiles of no width, into 555 bytes");
     refused_sheet(p, 555, KAHOPIRU_OUTPUT_LENGTH, "P's sheet into 555 bytes");
 }
 
@@ -242,6 +285,8 @@ static void long_sheet(void) {
     memset(changed, 0, sizeof changed);
     changed[3] = COLS;
     changed[5] = ROWS;
+    for (int size = 6; size < 22; size += 4)
+        changed[size + 3] = 1;
     changed[RECORD_LENGTH + 3] = REST;
     const bytes sheet = {changed, MOST_SHEET};
     refused_sheet(sheet, ROOM, KAHOPIRU_OUTPUT_LENGTH, "a sheet of 1,530 tiles");
@@ -258,6 +303,7 @@ int try_refusals(void) {
     uint32_t lengths[P_BYTES];
     given p = read_sheet(from_hex(p_digits, p_sheet), lengths, false);
     sides(&p);
+    sizes(&p);
     lists(&p);
     ids(&p);
     too_long(&p);

@@ -72,7 +72,7 @@ static void try_all(const char *name, bytes sheet, bytes file) {
    no two lengths of samples and no two depths are alike; the file is the sheet call's. */
 static void try_uneven(void) {
     static const char digits[] =
-        "01FF" "0002" "0001" "00000011" "00000012" "00000013" "00000014"      /* map, grid, sizes */
+        "01FF" "0002" "0001" "00000011" "00000014" "00000013" "00000012"      /* map, grid, sizes */
         "0102" "00000002" "0101" "00000003" "010402"                          /* depths, records */
         "00000001" "00000002" "00000004" "00000000" "A1A2A3" "B1B2B3B4"       /* lengths, samples */
         "0001" "000D" "0006" "01" "00000001" "C1" "06" "03E8" "0190"          /* cicp, ICC, orientation, light level */

@@ -126,8 +126,8 @@ pub const VERSION: &str = env!("CARGO_PKG_VERSION");
 ///
 /// # Errors
 ///
-/// The first of the refusals 1 to 5 that holds: [`Refusal::GridSide`], [`Refusal::TileCount`],
-/// [`Refusal::SampleLengths`], [`Refusal::ItemIds`], [`Refusal::FileLength`].
+/// The first of these refusals that holds, in this order: [`Refusal::GridSide`], [`Refusal::Cover`],
+/// [`Refusal::TileCount`], [`Refusal::SampleLengths`], [`Refusal::ItemIds`], [`Refusal::FileLength`].
 ///
 /// # Panics
 ///

@@ -4,21 +4,22 @@ use crate::{BitDepth, Cicp, ColorMetadata, Metadata, Samples};
 
 /// The tile grid: its columns and rows, the size of a tile, and the size of the whole picture, in pixels.
 ///
-/// The sizes may be any numbers. Today's readers refuse tiles that do not cover the whole picture, and a width or
-/// height above 65,535; the repository's docs/DIFFERENCES.md says more, S4 and S10.
+/// No size is 0, and the tiles cover the whole picture: `cols` × `tile_w` is at least `full_w`, and `rows` × `tile_h`
+/// at least `full_h`. Other sizes are refused with [`Refusal::Cover`](crate::Refusal::Cover). Today's readers refuse a
+/// width or height above 65,535; the repository's docs/DIFFERENCES.md says more, S10.
 #[derive(Clone, Copy, Debug, PartialEq, Eq, Hash, Default)]
 pub struct GridDims {
     /// Tiles across, 1 to 256.
     pub cols: u32,
     /// Tiles down, 1 to 256.
     pub rows: u32,
-    /// Width of a tile.
+    /// Width of a tile, 1 or more.
     pub tile_w: u32,
-    /// Height of a tile.
+    /// Height of a tile, 1 or more.
     pub tile_h: u32,
-    /// Width of the whole picture.
+    /// Width of the whole picture, 1 or more.
     pub full_w: u32,
-    /// Height of the whole picture.
+    /// Height of the whole picture, 1 or more.
     pub full_h: u32,
 }
 

@@ -57,9 +57,9 @@ fn both_calls_answer_the_same_length() {
 
 #[test]
 fn a_size_above_65535_widens_the_descriptor() {
-    let at = |full_w| {
+    let at = |width| {
         let mut panel = p();
-        panel.dims.full_w = full_w;
+        (panel.dims.tile_w, panel.dims.full_w) = (width, width);
         to_vec(&panel).unwrap()
     };
     let (narrow, wide) = (at(65_535), at(65_536));

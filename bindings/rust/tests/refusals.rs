@@ -35,6 +35,35 @@ fn sides_of_0_and_257_are_refused_and_256_is_not() {
 }
 
 #[test]
+fn tiles_that_do_not_cover_the_picture_are_refused() {
+    let sized = |cols, rows, [tile_w, tile_h, full_w, full_h]: [u32; 4]| {
+        let lengths = vec![0; (cols * rows) as usize];
+        let panel = grid(cols, rows, &lengths);
+        let dims = GridDims { tile_w, tile_h, full_w, full_h, ..panel.dims };
+        let panel = Panel { dims, ..panel };
+        file_length(&panel).map_or_else(|_| Err(refusal(&panel)), |_| Ok(()))
+    };
+    // Just covered, one short, one over, on either axis.
+    assert_eq!(sized(3, 2, [64, 32, 192, 64]), Ok(()));
+    assert_eq!(sized(3, 2, [64, 32, 193, 64]), Err(Refusal::Cover));
+    assert_eq!(sized(3, 2, [64, 32, 192, 65]), Err(Refusal::Cover));
+    assert_eq!(sized(3, 2, [64, 32, 191, 63]), Ok(()));
+    for zero in 0..4 {
+        let mut sizes = [64; 4];
+        sizes[zero] = 0;
+        assert_eq!(sized(1, 1, sizes), Err(Refusal::Cover));
+    }
+    // 2 × 2³¹ and 256 × (2³² - 1), which 32 bits do not hold.
+    assert_eq!(sized(2, 1, [1 << 31, 1, u32::MAX, 1]), Ok(()));
+    assert_eq!(sized(1, 256, [1, u32::MAX, 1, u32::MAX]), Ok(()));
+    // 1 comes before it, and it before 2.
+    let uncovered = GridDims { full_w: 65, ..p().dims };
+    assert_eq!(refusal(&Panel { dims: GridDims { cols: 0, ..uncovered }, ..p() }), Refusal::GridSide);
+    let miscounted = Samples { lengths: &[1, 0], ..p().color_samples };
+    assert_eq!(refusal(&Panel { dims: uncovered, color_samples: miscounted, ..p() }), Refusal::Cover);
+}
+
+#[test]
 fn a_list_with_another_count_is_refused() {
     let one = p().color_samples;
     for lengths in [&[][..], &[1, 0]] {
@@ -106,7 +135,7 @@ fn short_room_is_refused_and_exact_room_is_filled() {
 }
 
 /// The refusals in the words that the README, the header and the program have too.
-const WORDS: [(u32, &str); 12] = [
+const WORDS: [(u32, &str); 13] = [
     (1, "there are no rows or no columns, or more than 256"),
     (2, "there is not exactly one sample length for each tile, in the colour list or in the alpha list"),
     (3, "the lengths do not add up to the sample bytes that were handed over"),
@@ -114,6 +143,7 @@ const WORDS: [(u32, &str); 12] = [
     (5, "the file would be longer than 4,294,967,295 bytes"),
     (6, "the room for the file is too short"),
     (7, "the item id names no tile"),
+    (8, "a size of a tile or of the whole picture is 0, or the tiles do not cover the whole picture"),
     (11, "the sheet ends before its fields do"),
     (12, "the sheet's map asks for something that there is not, or for a part without the part that it belongs to"),
     (13, "a depth, an orientation, a colour code or a yes or no is none that exists"),
