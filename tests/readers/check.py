@@ -3,6 +3,7 @@
     check.py WRITER CACHE    WRITER is the program that turns sheets into files, CACHE a folder for coded pictures
 """
 
+import dataclasses
 import pathlib
 import subprocess
 import sys
@@ -26,11 +27,33 @@ def write(writer, every, room):
     """Writes the file of each panel; each file with what it is meant to show."""
     command = [writer]
     for each in every:
-        data = sheet.sheet(each.panel)
+        data = sheet.sheet(dataclasses.replace(each.panel, full=covered(each.panel)))
         (room / f"{each.name}.sheet").write_bytes(data)
         command += [room / f"{each.name}.sheet", room / f"{each.name}.heic"]
     subprocess.run(command, check=True)
-    return {room / f"{each.name}.heic": each for each in every}
+    files = {room / f"{each.name}.heic": each for each in every}
+    for path, each in files.items():
+        if each.difference == "D12":
+            path.write_bytes(stretched(path.read_bytes(), each.panel))
+    return files
+
+
+def covered(panel):
+    """The panel's full size, or as much of it as its tiles cover."""
+    reach = panel.cols * panel.tile[0], panel.rows * panel.tile[1]
+    return tuple(map(min, panel.full, reach))
+
+
+def stretched(data, panel):
+    """The file of the covered size with the panel's full size in its place, in ispe and in both descriptors: as upstream
+    would write a picture that its tiles don't cover, and this writer refuses (D12)."""
+    whole, full = covered(panel), panel.full
+    for kind, before, size, count in (("ispe", bytes(4), 4, 1), ("", bytes([0, 0, panel.rows - 1, panel.cols - 1]), 2, 2)):
+        old, new = (kind.encode() + before + b"".join(n.to_bytes(size, "big") for n in pair) for pair in (whole, full))
+        if data.count(old) != count:
+            sys.exit(f"readers: the size {whole} stands {data.count(old)} times in '{kind or 'idat'}', not {count} times")
+        data = data.replace(old, new)
+    return data
 
 
 def check_examples(tally):

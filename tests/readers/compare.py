@@ -48,13 +48,13 @@ def decoded(tally, reader, file, meant, room):
     try:
         seen = reader.read(file, room)
     except programs.Refused as refusal:
-        if meant.difference in ("S2", "S4") or two_depths and reader.makes_one_depth:
+        if meant.difference in ("S2", "D12") or two_depths and reader.makes_one_depth:
             tally.note(reader, meant.name, meant.difference, expected.REFUSED)
         else:
             tally.fail(reader.name, meant.name, f"refused: {refusal}")
         return
     tally.count(reader.name, "files read")
-    if meant.difference in ("S2", "S4"):
+    if meant.difference in ("S2", "D12"):
         tally.note(reader, meant.name, meant.difference, expected.SHOWN)
     elif meant.difference == "S1":
         _mirrored(tally, reader, meant, seen)
@@ -151,7 +151,7 @@ def described(tally, info, file, meant):
     try:
         said = info.read(file)
     except programs.Refused as refusal:
-        if meant.difference in ("S2", "S4"):
+        if meant.difference in ("S2", "D12"):
             tally.note(info, meant.name, meant.difference, expected.REFUSED)
         else:
             tally.fail(info.name, meant.name, f"refused: {refusal}")

@@ -13,7 +13,7 @@ SHOWN, REFUSED = "shown", "refused"
 LIBHEIF = {
     "S1": {"1.15.1": {OTHER_OF_PAIR}, "1.19.8": {OTHER_OF_PAIR}, "1.23.6": {OTHER_OF_PAIR}},
     "S2": {"1.15.1": {REFUSED}, "1.19.8": {REFUSED}, "1.23.6": {SHOWN}},  # the last with the tile black
-    "S4": {"1.15.1": {SHOWN}, "1.19.8": {REFUSED}, "1.23.6": {REFUSED}},
+    "D12": {"1.15.1": {SHOWN}, "1.19.8": {REFUSED}, "1.23.6": {REFUSED}},
     "S10": {"1.19.8": {REFUSED}, "1.23.6": {REFUSED}},
     # By a reader that makes one depth of two, under an identity matrix and under another; and by the library itself.
     "S11, identity": {"1.15.1": {REFUSED}, "1.19.8": {REFUSED}, "1.23.6": {AS_MEANT}},

@@ -72,7 +72,7 @@ def cases():
         Case("gain-toned-turned", gain_depth=8, toned=True, orientation="Rotate90", exif=EXIF),
         Case("cropped", full=CROPPED),
         Case("empty-sample", empty_sample=True, difference="S2"),
-        Case("uncovered", full=(200, 128), difference="S4"),
+        Case("uncovered", full=(200, 128), difference="D12"),
     ]
     for turn in sheet.ORIENTATIONS:
         mirrored = "S1" if turn in ("FlipH", "FlipV", "Transpose", "Transverse") else None

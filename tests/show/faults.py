@@ -157,7 +157,6 @@ STORED = {
         "item 5, Exif: there is no TIFF header at 10, where the first four bytes put it; exiftool does not find its tags"
     ],
     "full-width-65536": [f"items 2, 4, grid: {FLAGS_2}"],  # S10
-    "full-width-65535": ["items 2, 4, grid: 1 × 1 tiles of 64 × 64 cover 64 × 64 pixels, and the grid has 65535 × 64"],  # S4
     "two-rows": ["items 1, 2, 4, 5, hvc1: an extent of length 0, which readers take for the whole file or refuse"],  # S2
 }
 

@@ -1,7 +1,7 @@
 """What readers refuse in a file, one sentence for each; findings that are alike are one sentence for all their items.
 
 Seen with real readers are an extent of length 0, a distance of 0 to a TIFF header behind Exif's marker, tiles that do not cover
-their grid, and a grid's flags (S2, D11, S4 and S10 of docs/DIFFERENCES.md). The others are what the standards ask for; what
+their grid, and a grid's flags (S2, D11, D12 and S10 of docs/DIFFERENCES.md). The others are what the standards ask for; what
 readers do there is recalled."""
 
 from . import grids, hevc, metadata, properties

@@ -1,4 +1,5 @@
-//! What has occurred among the random panels that were accepted. Whatever never did was not compared.
+//! What has occurred among the random panels that were accepted, and among those whose tiles don't cover the picture.
+//! Whatever never did was not compared.
 
 use crate::panels::{Case, Color, Gain};
 use crate::reference::MARKER;
@@ -10,7 +11,8 @@ type Holds = Box<dyn Fn(&Case) -> bool>;
 pub struct Coverage(Vec<(String, Holds, u64)>);
 
 impl Coverage {
-    pub fn new() -> Coverage {
+    /// What is looked for in panels that are accepted.
+    pub fn of_accepted() -> Coverage {
         let mut all = Coverage(Vec::new());
         all.options();
         all.enums();
@@ -20,10 +22,28 @@ impl Coverage {
         all.codes("cicp", |c| c.color.cicp);
         all.codes("gain map's cicp", |c| c.gain.as_ref().map(|g| g.cicp));
         all.codes("alternate cicp", |c| alternate_of(c).and_then(|a| a.cicp));
+        for (name, axis) in AXES {
+            all.add(format!("{name}: the tiles end where the picture does"), move |c| axis(c).over() == 0);
+            all.add(format!("{name}: the tiles reach one further"), move |c| axis(c).over() == 1);
+            all.add(format!("{name}: the tiles reach beyond 2³²"), move |c| axis(c).sum() > 1 << 32);
+            all.add(format!("{name}: 32 bits lose that they reach"), move |c| (axis(c).sum() as u32) < axis(c).full);
+        }
         all
     }
 
-    /// Counts a panel that was accepted.
+    /// What is looked for in panels that are refused because their tiles don't cover the picture.
+    pub fn of_uncovered() -> Coverage {
+        let mut all = Coverage(Vec::new());
+        for (name, axis) in AXES {
+            all.add(format!("{name}: the tiles end one too early"), move |c| axis(c).over() == -1);
+            all.add(format!("{name}: no full size"), move |c| axis(c).full == 0 && axis(c).tile > 0);
+            all.add(format!("{name}: no tile size"), move |c| axis(c).full > 0 && axis(c).tile == 0);
+        }
+        all.add("a wrong count of lengths", |c| c.color_lengths.len() != c.alpha_lengths.len());
+        all
+    }
+
+    /// Counts a panel.
     pub fn count(&mut self, case: &Case) {
         for (_, holds, count) in &mut self.0 {
             *count += u64::from(holds(case));
@@ -161,6 +181,29 @@ impl Coverage {
         self.add("rext colour record, gain not", |c| gained(c, |g| !rext(&g.hvcc)) && rext(&c.color_hvcc));
     }
 }
+
+/// Along one axis: how many tiles, the size of each, and the full size.
+struct Axis {
+    tiles: u32,
+    tile: u32,
+    full: u32,
+}
+
+impl Axis {
+    fn sum(&self) -> i64 {
+        i64::from(self.tiles) * i64::from(self.tile)
+    }
+
+    /// How far the tiles reach beyond the picture.
+    fn over(&self) -> i64 {
+        self.sum() - i64::from(self.full)
+    }
+}
+
+const AXES: [(&str, fn(&Case) -> Axis); 2] = [
+    ("across", |c| Axis { tiles: c.dims.cols, tile: c.dims.tile_w, full: c.dims.full_w }),
+    ("down", |c| Axis { tiles: c.dims.rows, tile: c.dims.tile_h, full: c.dims.full_h }),
+];
 
 fn rext(record: &[u8]) -> bool {
     record.len() > 1 && record[1] & 31 == 4

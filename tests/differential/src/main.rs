@@ -82,24 +82,32 @@ fn set(name: &str, run: &mut Run, go: impl FnOnce(&mut Run)) {
     println!("{name}: {} accepted, {refused} refused, {} differ", count(0), run.failures - failed);
 }
 
-/// Draws panels. Fails if too few were accepted or something never occurred among those.
+/// Draws panels. Fails if too few were accepted, or if something looked for never occurred among the accepted or among
+/// those refused with 8.
 fn random(run: &mut Run, seed: u64, panels: u64) {
-    let (mut rng, mut coverage, mut accepted) = (Rng::new(seed), Coverage::new(), 0);
+    let (mut rng, mut accepted) = (Rng::new(seed), 0);
+    let (mut coverage, mut uncovered) = (Coverage::of_accepted(), Coverage::of_uncovered());
     for number in 0..panels {
         let case = random::panel(&mut rng);
-        if run.panel(&format!("random panel {number} of seed {seed}"), &case) {
-            accepted += 1;
-            coverage.count(&case);
+        match run.panel(&format!("random panel {number} of seed {seed}"), &case) {
+            None => {
+                accepted += 1;
+                coverage.count(&case);
+            }
+            Some(8) => uncovered.count(&case),
+            Some(_) => {}
         }
     }
     if accepted < panels / 10 * 9 {
         run.fail("random panels", "fewer than nine in ten were accepted", &accepted);
     }
-    for name in coverage.missing() {
-        run.fail("random panels", "never occurred in an accepted panel", &name);
+    for (of, among) in [(&coverage, "an accepted panel"), (&uncovered, "a panel refused with 8")] {
+        for name in of.missing() {
+            run.fail("random panels", &format!("never occurred in {among}"), &name);
+        }
+        let (rarest, count) = of.rarest();
+        println!("random panels: of {} things looked for in {among} the rarest is '{rarest}', in {count}", of.len());
     }
-    let (rarest, count) = coverage.rarest();
-    println!("random panels: of {} things looked for the rarest is '{rarest}', in {count}", coverage.len());
 }
 
 /// Compares sheets and says what they were.
@@ -123,6 +131,7 @@ fn everything(options: &Options) -> Run {
     set("depths", &mut run, sets::depths);
     set("Exif markers", &mut run, sets::exif_markers);
     set("descriptors", &mut run, sets::descriptors);
+    set("sizes that tiles cover, or not", &mut run, sets::covers);
     set("last ids", &mut run, sets::last_ids);
     set("refusals", &mut run, sets::refusals);
     set("lengths around 4 GiB", &mut run, huge::lengths);

@@ -15,10 +15,10 @@ use kahopiru::{sys, Cicp, Refusal, Samples};
 /// The checks of each call, in the order in which they are made; that 13 comes before them, codes.rs tries. Where a
 /// sheet is spoiled, the reading meets the depths (13) before the end (11).
 const ORDERS: [(&str, &[u32]); 4] = [
-    ("write", &[1, 2, 3, 4, 5, 6]),
-    ("file_length", &[1, 2, 3, 4, 5]),
+    ("write", &[1, 8, 2, 3, 4, 5, 6]),
+    ("file_length", &[1, 8, 2, 3, 4, 5]),
     ("tile", &[2, 3, 4, 7]),
-    ("sheet", &[15, 12, 13, 11, 14, 1, 6]),
+    ("sheet", &[15, 12, 13, 11, 14, 1, 8, 6]),
 ];
 
 /// A sheet that ends too soon has no bytes left over.
@@ -58,15 +58,18 @@ fn kept(answer: Answer, room: &Room) -> bool {
 
 // ---- panels
 
-/// The lengths and the samples of a panel for which these checks hold.
+/// A panel for which these checks hold.
 fn spoiled(pair: Pair) -> Case {
     let has = |number| pair.contains(&number);
     let mut case = match (has(1), has(4)) {
         (false, false) => p(),
-        (true, false) => p().with_empty_grid(1, 0),
+        (true, false) => p().with_empty_grid(1, 257),
         (false, true) => p().with_empty_grid(256, 256),
         (true, true) => p().with_empty_grid(256, 257),
     };
+    if has(8) {
+        case.dims.full_w = case.dims.cols * case.dims.tile_w + 1;
+    }
     if has(2) {
         case.color_lengths.push(0);
     }
@@ -116,7 +119,10 @@ const ALPHA_DEPTH: usize = 23;
 /// there.
 fn spoiled_sheet(pair: Pair, code: usize) -> Vec<u8> {
     let has = |number| pair.contains(&number);
-    let base = if has(1) { p().with_empty_grid(0, 1) } else { p() };
+    let mut base = if has(1) { p().with_empty_grid(1, 257) } else { p() };
+    if has(8) {
+        base.dims.full_h = base.dims.rows * base.dims.tile_h + 1;
+    }
     let exif = Some(vec![0; if has(15) { 12_288 } else { 8 }]);
     let mut bytes = sheet(&Case { exif, ..base });
     if has(12) {

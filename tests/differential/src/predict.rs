@@ -22,10 +22,12 @@ pub fn answer(panel: &Panel<'_>, room: Option<usize>) -> Answer {
 pub fn holding(panel: &Panel<'_>, room: Option<usize>) -> Vec<u32> {
     let (rows, cols) = (i128::from(panel.dims.rows), i128::from(panel.dims.cols));
     let good_side = |side: i128| (1..=256).contains(&side);
+    let dims = panel.dims;
     let counts = |s: Samples<'_>| s.lengths.len() as i128 == tiles(panel);
     let length = length(panel);
     let checks = [
         (1, !good_side(rows) || !good_side(cols)),
+        (8, !covered(dims.cols, dims.tile_w, dims.full_w) || !covered(dims.rows, dims.tile_h, dims.full_h)),
         (2, !counts(panel.color_samples) || !counts(panel.alpha_samples)),
         (3, !sums(panel.color_samples) || !sums(panel.alpha_samples)),
         (4, last_id(panel) > LAST_ID),
@@ -38,6 +40,12 @@ pub fn holding(panel: &Panel<'_>, room: Option<usize>) -> Vec<u32> {
 /// How many tiles each picture has.
 pub fn tiles(panel: &Panel<'_>) -> i128 {
     i128::from(panel.dims.rows) * i128::from(panel.dims.cols)
+}
+
+/// Whether a side of the picture has tiles enough: as many as its size takes, the last of which may be cut. A size of 0
+/// is none.
+fn covered(tiles: u32, tile: u32, full: u32) -> bool {
+    tile > 0 && full > 0 && full.div_ceil(tile) <= tiles
 }
 
 /// Whether lengths sum to the bytes lent.

@@ -100,6 +100,20 @@ fn size(rng: &mut Rng) -> u32 {
     }
 }
 
+/// The size of a tile and the full size along an axis with so many tiles, which cover it: often exactly, or with one to
+/// spare.
+fn axis(rng: &mut Rng, tiles: u32) -> (u32, u32) {
+    let tile = size(rng).max(1);
+    let most = tile.saturating_mul(tiles);
+    let full = match rng.below(8) {
+        0 | 1 => most,
+        2 => most - 1,
+        3 => 1,
+        _ => 1 + rng.below(u64::from(most)) as u32,
+    };
+    (tile, full.max(1))
+}
+
 /// Sides of the grid: mostly few tiles, seldom a long side.
 fn grid(rng: &mut Rng) -> (u32, u32) {
     match rng.below(64) {
@@ -132,12 +146,13 @@ fn gain(rng: &mut Rng) -> Gain {
 /// A panel, most probably one that is accepted.
 pub fn panel(rng: &mut Rng) -> Case {
     let (cols, rows) = grid(rng);
+    let ((tile_w, full_w), (tile_h, full_h)) = (axis(rng, cols), axis(rng, rows));
     let tiles = cols * rows;
     let (color_lengths, alpha_lengths) = (lengths(rng, tiles), lengths(rng, tiles));
     let bit_depth = rng.pick(&BitDepth::ALL);
     let samples = |rng: &mut Rng, lengths: &[u32]| (0..lengths.iter().sum()).map(|_| rng.next() as u8).collect();
     let mut case = Case {
-        dims: GridDims { cols, rows, tile_w: size(rng), tile_h: size(rng), full_w: size(rng), full_h: size(rng) },
+        dims: GridDims { cols, rows, tile_w, tile_h, full_w, full_h },
         bit_depth,
         // Upstream has one depth for both.
         alpha_bit_depth: if rng.once_in(2) { bit_depth } else { rng.pick(&BitDepth::ALL) },
@@ -168,13 +183,16 @@ pub fn panel(rng: &mut Rng) -> Case {
 /// The panel with so many empty tiles that the last id comes close to 65,535, on either side.
 fn around_the_last_id(rng: &mut Rng, case: Case) -> Case {
     let (cols, rows) = rng.pick(&[(254, 129), (129, 254), (217, 151), (255, 128), (255, 129), (256, 128), (256, 256)]);
-    case.with_empty_grid(cols, rows)
+    let mut case = case.with_empty_grid(cols, rows);
+    (case.dims.tile_w, case.dims.full_w) = axis(rng, cols);
+    (case.dims.tile_h, case.dims.full_h) = axis(rng, rows);
+    case
 }
 
 /// Breaks one of the rules of a panel. Done twice it may mend it again, or break two.
 fn spoil(rng: &mut Rng, case: &mut Case) {
     let side = |rng: &mut Rng| rng.pick(&[0, 257, 512, 65_536, 65_537, u32::MAX]);
-    match rng.below(8) {
+    match rng.below(10) {
         0 => case.dims.cols = side(rng),
         1 => case.dims.rows = side(rng),
         2 => case.color_lengths.push(0),
@@ -182,10 +200,25 @@ fn spoil(rng: &mut Rng, case: &mut Case) {
         4 => case.color_samples.push(0),
         5 => case.alpha_samples.truncate(case.alpha_samples.len().saturating_sub(1)),
         6 => std::mem::swap(&mut case.color_lengths, &mut case.alpha_lengths),
+        7 => uncover(rng, &mut case.dims),
+        8 => {
+            let dims = &mut case.dims;
+            let size = [&mut dims.tile_w, &mut dims.tile_h, &mut dims.full_w, &mut dims.full_h];
+            *size.into_iter().nth(rng.below(4) as usize).expect("there are four") = 0;
+        }
         _ => {
             if let Some(first) = case.alpha_lengths.first_mut() {
                 *first = first.wrapping_sub(1);
             }
         }
+    }
+}
+
+/// Makes the picture one wider or higher than its tiles reach, where 32 bits have that size.
+fn uncover(rng: &mut Rng, dims: &mut GridDims) {
+    if rng.once_in(2) {
+        dims.full_w = dims.cols.saturating_mul(dims.tile_w).saturating_add(1);
+    } else {
+        dims.full_h = dims.rows.saturating_mul(dims.tile_h).saturating_add(1);
     }
 }

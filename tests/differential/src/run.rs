@@ -29,14 +29,14 @@ impl Run {
         Run { room: Room::new(), rng: Rng::new(!seed), panels: BTreeMap::new(), short_rooms: 0, calls: 0, failures: 0 }
     }
 
-    /// Compares all that is said and done with a panel. Answers whether it was accepted.
-    pub fn panel(&mut self, name: &str, case: &Case) -> bool {
+    /// Compares all that is said and done with a panel. Answers the number of the refusal that is due, if one is.
+    pub fn panel(&mut self, name: &str, case: &Case) -> Option<u32> {
         let expected = predict::answer(&case.panel(), None);
         *self.panels.entry(expected.err().unwrap_or(0)).or_default() += 1;
         if let Err(why) = self.compare(case, expected) {
             self.fail(name, &why, case);
         }
-        expected.is_ok()
+        expected.err()
     }
 
     /// Reports a difference.

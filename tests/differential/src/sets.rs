@@ -84,7 +84,7 @@ pub fn exif_markers(run: &mut Run) {
     }
 }
 
-/// Sizes on either side of where the descriptor widens, for either side of the picture.
+/// Sizes on either side of where the descriptor widens, for either side of the picture, in one tile.
 pub fn descriptors(run: &mut Run) {
     let sizes = [0, 1, 65_534, 65_535, 65_536, u32::MAX];
     for full_w in sizes {
@@ -92,10 +92,46 @@ pub fn descriptors(run: &mut Run) {
             for base in [p(), full()] {
                 let mut case = base;
                 (case.dims.full_w, case.dims.full_h) = (full_w, full_h);
+                (case.dims.tile_w, case.dims.tile_h) = (full_w, full_h);
                 run.panel(&format!("full size {full_w} by {full_h}"), &case);
             }
         }
     }
+}
+
+/// Sizes around what tiles cover, on either axis: no size, one short, exactly, one over, and sums of tiles about 2³² and
+/// beyond, where 32 bits would lose what is carried.
+pub fn covers(run: &mut Run) {
+    for tiles in [1, 2, 3, 128, 255, 256] {
+        let most = u32::MAX / tiles;
+        for tile in [0, 1, 2, 63, 64, 65, 65_535, 65_536, most - 1, most, most.saturating_add(1), 1 << 31, u32::MAX] {
+            let sum = u64::from(tiles) * u64::from(tile);
+            let carried = u64::from(sum as u32);
+            let mut fulls = Vec::new();
+            for edge in [0, sum, carried, u64::from(u32::MAX)] {
+                fulls.extend([edge.checked_sub(1), Some(edge), edge.checked_add(1)].into_iter().flatten());
+            }
+            fulls.retain(|&full| full <= u64::from(u32::MAX));
+            fulls.sort_unstable();
+            fulls.dedup();
+            for full in fulls {
+                on_each_axis(run, tiles, tile, full as u32);
+            }
+        }
+    }
+}
+
+/// So many tiles of a size for a full size: as columns, as rows, and as columns of a panel with every part.
+fn on_each_axis(run: &mut Run, tiles: u32, tile: u32, full_size: u32) {
+    let name = format!("{tiles} tiles of {tile} for {full_size}");
+    for base in [p(), full()] {
+        let mut case = base.with_empty_grid(tiles, 1);
+        (case.dims.tile_w, case.dims.full_w) = (tile, full_size);
+        run.panel(&format!("{name}, across"), &case);
+    }
+    let mut case = p().with_empty_grid(1, tiles);
+    (case.dims.tile_h, case.dims.full_h) = (tile, full_size);
+    run.panel(&format!("{name}, down"), &case);
 }
 
 /// Grids around the last item id, with and without what takes more ids.
@@ -127,6 +163,11 @@ pub fn refusals(run: &mut Run) {
             let mut case = base.with_grid(2, 2, vec![1, 0, 2, 3], vec![0, 0, 1, 1]);
             spoil(&mut case);
             run.panel("spoiled", &case);
+            // With a picture that is too wide for its tiles, and with no rows besides.
+            case.dims.full_w = 129;
+            run.panel("spoiled and too wide", &case);
+            case.dims.rows = 0;
+            run.panel("spoiled, too wide and without rows", &case);
         }
     }
 }

@@ -8,7 +8,7 @@ use crate::random::{self, Rng};
 use crate::run::Run;
 use crate::sheet::{every_field, sheet};
 use crate::{raw, reader, reference};
-use kahopiru::sys;
+use kahopiru::{sys, GridDims};
 use std::collections::BTreeMap;
 use std::io::Write;
 use std::path::PathBuf;
@@ -67,6 +67,13 @@ fn sheets(seed: u64) -> Vec<Vec<u8>> {
     }
     for (cols, rows) in [(0, 1), (1, 0), (0, 0), (257, 1), (1, 300), (0, 65_535)] {
         all.push(sheet(&p().with_empty_grid(cols, rows)));
+    }
+    for (tile_w, tile_h, full_w, full_h) in
+        [(64, 64, 65, 64), (64, 64, 64, 65), (0, 64, 64, 64), (64, 64, 64, 0), (0, 0, 0, 0)]
+    {
+        let mut case = p();
+        case.dims = GridDims { tile_w, tile_h, full_w, full_h, ..case.dims };
+        all.push(sheet(&case));
     }
     let whole = sheet(&full().with_grid(2, 2, vec![1, 0, 2, 1], vec![0, 1, 1, 0]));
     all.extend((0..=whole.len()).map(|n| whole[..n].to_vec()));
@@ -144,7 +151,7 @@ pub fn run(run: &mut Run, seed: u64) -> Seen {
         }
         seen.sheets += 1;
     }
-    for number in [0, 1, 6, 11, 12, 13, 14, 15] {
+    for number in [0, 1, 6, 8, 11, 12, 13, 14, 15] {
         if !seen.answers.contains_key(&number) {
             run.fail("sheets", "no sheet was answered so", &number);
         }

@@ -18,9 +18,10 @@ fn trial(name: &'static str, case: Case, answer: Answer, holds: Vec<Vec<u8>>) ->
     Trial { name, case, room: 65_536, answer, holds }
 }
 
-fn wide(full_w: u32) -> Case {
+/// P so wide, its one tile too.
+fn wide(width: u32) -> Case {
     let mut case = p();
-    case.dims.full_w = full_w;
+    (case.dims.tile_w, case.dims.full_w) = (width, width);
     case
 }
 

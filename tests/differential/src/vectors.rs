@@ -23,11 +23,11 @@ fn named(name: &str, change: impl FnOnce(&mut Case)) -> Vector {
 fn trials() -> Vec<Vector> {
     vec![
         named("p", |_| ()),
-        named("full-width-65535", |c| c.dims.full_w = 65_535),
-        named("full-width-65536", |c| c.dims.full_w = 65_536),
-        named("full-height-65536", |c| c.dims.full_h = 65_536),
-        named("no-sizes", |c| {
-            (c.dims.tile_w, c.dims.tile_h, c.dims.full_w, c.dims.full_h) = (0, 0, 0, 0);
+        named("full-width-65535", |c| (c.dims.tile_w, c.dims.full_w) = (65_535, 65_535)),
+        named("full-width-65536", |c| (c.dims.tile_w, c.dims.full_w) = (65_536, 65_536)),
+        named("full-height-65536", |c| (c.dims.tile_h, c.dims.full_h) = (65_536, 65_536)),
+        named("sizes-of-1", |c| {
+            (c.dims.tile_w, c.dims.tile_h, c.dims.full_w, c.dims.full_h) = (1, 1, 1, 1);
         }),
     ]
 }
