@@ -50,6 +50,10 @@ wait_until() {
     for _ in $(seq 200); do if "$@"; then return; fi; sleep 0.05; done
     return 1
 }
+# The signals that end a script. Under nohup a HUP is ignored, by all that is started here, too: then there is no end to wait for.
+signals=(TERM)
+if [ -z "$(trap -p HUP)" ]; then signals+=(HUP); else left_out hangup "what a HUP ends: it is ignored here, as under nohup"; fi
+tried() { [[ " ${signals[*]} " = *" $1 "* ]]; }
 # is_gone PROCESS: whether it has ended, be it that nobody has asked for its status yet
 is_gone() {
     case $(ps -o stat= -p "$1") in
@@ -196,7 +200,7 @@ rm -rf "$folder" && mkdir "$folder"
 mkfifo "$room/slow"
 exec 6<>"$room/slow"
 has_program() { pgrep -P "$(cat "$room/script" 2>/dev/null || echo 0)" >"$room/program"; }
-for signal in TERM HUP; do
+for signal in "${signals[@]}"; do
     rm -f "$room/script"
     (./panel - "$folder/card.heic" <"$room/slow" >/dev/null 2>&1 & echo $! >"$room/script"; wait $!) 2>"$room/err" &
     shell=$!
@@ -206,7 +210,7 @@ for signal in TERM HUP; do
     holds "a $signal ends the program that waits" wait_until is_gone "$(cat "$room/program")"
     holds "a $signal takes the temporary file away" only "$folder" ''
 done
-holds "a HUP is what the script ends by" says Hangup
+! tried HUP || holds "a HUP is what the script ends by" says Hangup
 exec 6>&-
 
 # ---- the first use: `root` is the repository's root, and `rt` pretends. Both scripts are tried at once, each in a room of its own.
@@ -367,7 +371,7 @@ first_uses() {
     holds "two first uses of $script at once prove once" all ended 0 , built , runs "$once"
     holds "the second of two uses of $script says that it waits" grep -q 'another command is proving here' "$room/err" "$room/other"
 
-    for signal in TERM HUP; do
+    for signal in "${signals[@]}"; do
         new_root
         (SLOW=600 PATH=$kit:$PATH "$root/$script" <"$p" >/dev/null 2>&1 & echo $! >"$room/script"; wait $!) 2>"$room/err" &
         shell=$!
@@ -377,7 +381,7 @@ first_uses() {
         holds "a $signal of $script ends what it started" wait_until is_gone "$(cat "$room/sleep")"
         kill "$(cat "$room/sleep")" 2>/dev/null
     done
-    holds "a HUP is what $script ends by" says Hangup
+    ! tried HUP || holds "a HUP is what $script ends by" says Hangup
 
     new_root
     run env PATH="$bare" "$root/$script" <"$p"
