@@ -99,7 +99,23 @@ static void sides(const given *p) {
     refused(&g, KAHOPIRU_GRID_SIDE, "257 columns");
 }
 
-/* Two rows of three tiles, each size in turn too large by one, or 0; and panels at which two checks hold. */
+/* Sizes of two rows of three tiles and of their picture, and what the panel is answered. */
+static const struct {
+    uint32_t tile_w, tile_h, full_w, full_h, refusal;
+    const char *why;
+} sized[] = {
+    {64, 32, 192, 64, KAHOPIRU_ACCEPTED, "tiles that end where the picture does"},
+    {64, 32, 191, 63, KAHOPIRU_ACCEPTED, "tiles that reach one further"},
+    {64, 32, 193, 64, KAHOPIRU_COVER, "a picture one wider than its tiles"},
+    {64, 32, 192, 65, KAHOPIRU_COVER, "a picture one higher than its tiles"},
+    {0, 32, 192, 64, KAHOPIRU_COVER, "tiles of no width"},
+    {64, 0, 192, 64, KAHOPIRU_COVER, "tiles of no height"},
+    {64, 32, 0, 64, KAHOPIRU_COVER, "a picture of no width"},
+    {64, 32, 192, 0, KAHOPIRU_COVER, "a picture of no height"},
+    {UINT32_MAX, 32, UINT32_MAX, 64, KAHOPIRU_ACCEPTED, "tiles that reach beyond 32 bits, across"},
+    {64, UINT32_MAX, 192, UINT32_MAX, KAHOPIRU_ACCEPTED, "tiles that reach beyond 32 bits, down"},
+};
+
 static void sizes(const given *p) {
     static const uint32_t zeros[6], two[] = {1, 0};
     given g = *p;
@@ -107,31 +123,18 @@ static void sizes(const given *p) {
     g.color_lengths = g.alpha_lengths = (numbers){zeros, 6};
     g.panel.cols = 3;
     g.panel.rows = 2;
-    g.panel.full_w = 3 * g.panel.tile_w;
-    g.panel.full_h = 2 * g.panel.tile_h;
-    const given covered = g;
-    expect(by->length(&g).refusal == KAHOPIRU_ACCEPTED, "tiles that just cover the picture", "it is accepted");
-    g.panel.full_w++;
-    refused(&g, KAHOPIRU_COVER, "a picture one wider than its tiles");
-    g = covered;
-    g.panel.full_h++;
-    refused(&g, KAHOPIRU_COVER, "a picture one higher than its tiles");
-    g = covered;
-    g.panel.tile_w = 0;
-    refused(&g, KAHOPIRU_COVER, "tiles of no width");
-    g = covered;
-    g.panel.tile_h = 0;
-    refused(&g, KAHOPIRU_COVER, "tiles of no height");
-    g = covered;
-    g.panel.full_w = 0;
-    refused(&g, KAHOPIRU_COVER, "a picture of no width");
-    g = covered;
-    g.panel.full_h = 0;
-    refused(&g, KAHOPIRU_COVER, "a picture of no height");
-    g = covered;
-    g.panel.tile_w = g.panel.full_w = UINT32_MAX;
-    expect(by->length(&g).refusal == KAHOPIRU_ACCEPTED, "tiles that reach beyond 32 bits", "it is accepted");
+    for (size_t i = 0; i < sizeof sized / sizeof *sized; i++) {
+        g.panel.tile_w = sized[i].tile_w;
+        g.panel.tile_h = sized[i].tile_h;
+        g.panel.full_w = sized[i].full_w;
+        g.panel.full_h = sized[i].full_h;
+        if (sized[i].refusal == KAHOPIRU_ACCEPTED)
+            expect(by->length(&g).refusal == KAHOPIRU_ACCEPTED, sized[i].why, "it is accepted");
+        else
+            refused(&g, sized[i].refusal, sized[i].why);
+    }
 
+    /* Panels at which two checks hold. */
     g = *p;
     g.panel.full_w = 65;
     g.color_lengths = (numbers){two, 2};

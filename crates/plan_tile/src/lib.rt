@@ -11,7 +11,8 @@ use octets::total;
 use panel::{ItemId, Samples};
 use plan_checks::bad_sums;
 
-// Why the lookup refuses an id, each by the number of its check, in the order in which they are made: 2, 3, 4, 7. Of several the first counts.
+// Why the lookup refuses an id, each by the number of its check, in the order in which they are made: 2, 3, 4, 7. Of several the first
+// counts.
 #[derive(Clone, Copy)]
 pub enum TileRefusal {
     // The lists of lengths differ in count, or are empty.

@@ -8,7 +8,7 @@ use Prim.Native.Nat.{ℕ, ◌+◌, ◌*◌, ◌^◌, ◌≤◌, ◌<◌}
 use native.Mathlib.Omega.{arith}
 use lib.Dec.{ltb}
 use lib.ListN.{length}
-use borrow.Author.Tests.{eq-eqb, le-ltb, ltb-false}
+use borrow.Author.Tests.{le-ltb, ltb-false}
 use Rattle.octets.specs.Numbers.{◌‖◌, total}
 use Rattle.panel.specs.Panel.{Colour, Gain, Panel}
 use Rattle.panel.specs.Form.{ordinary}
@@ -23,7 +23,7 @@ use Rattle.heif.specs.Idat.{wide}
 use Rattle.heif.specs.Hvcc.{rext}
 use Rattle.heif.specs.Ftyp.{gain_rext}
 use Rattle.heif.specs.File.{file}
-use Rattle.heif.specs.Refusal.{bad_grid, bad_cover, differ, bad_counts, bad_sum, bad_items, too_long, refusal_in}
+use Rattle.heif.specs.Refusal.{bad_grid, bad_cover, bad_counts, bad_sum, bad_items, too_long, refusal_in}
 use Rattle.heif.specs.Answer.{write_answer}
 use Rattle.heif.specs.Ipma.{turn_count}
 use Rattle.heif.proofs.Refusal.{ordinary-items}
@@ -149,18 +149,14 @@ module _ (p : Panel) (b : Bounded p) where
   id_small =
       omega (arith, b.pictures.tiles, b.pictures.colour.count, cond_small (shape p).exif 1, cond_small (shape p).gain 2, cond_small (shape p).tone 1)
 
-  alike : {i j : ℕ} → i ≡ j → differ i j ≡ false
-  alike e = ap not (eq-eqb _ _ e)
-
-  neither : {x y : Bool} → x ≡ false → y ≡ false → (x || y) ≡ false
-  neither {x} {y} e f = ap (λ z. z || y) e ∙ f
-
   -- only 1, 8 and 6 can hold
   pub only : (room : ℕ) → refusal_in ordinary room p ≡ by_three p room
   unfolding refusal_in
   only room =
-      let e2 : bad_counts (p.dims.rows * p.dims.cols) (length p.tiles.lengths) (length p.alpha.lengths) ≡ false = neither (alike b.pictures.colour.count) (alike b.pictures.alpha.count) in
-      let e3 : (bad_sum p.tiles || bad_sum p.alpha) ≡ false = neither (alike b.pictures.colour.sum) (alike b.pictures.alpha.sum) in
+      let c = b.pictures.colour in
+      let a = b.pictures.alpha in
+      let e2 : bad_counts (p.dims.rows * p.dims.cols) (length p.tiles.lengths) (length p.alpha.lengths) ≡ false = grind (arith, c.count, a.count) in
+      let e3 : (bad_sum p.tiles || bad_sum p.alpha) ≡ false = grind (arith, c.sum, a.sum) in
       let e4 : bad_items ordinary (shape p) ≡ false = ordinary-items (shape p) ∙ le-ltb 65535 (last_id (shape p)) (omega (arith, id_small)) in
       let e5 : too_long (length (file ordinary p)) ≡ false = le-ltb _ _ file_small in
       first_of (bad_grid p.dims.rows p.dims.cols) (bad_cover p.dims) _ _ _ _ (ltb room (length (file ordinary p))) e2 e3 e4 e5
