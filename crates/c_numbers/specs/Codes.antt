@@ -7,7 +7,7 @@ use Rattle.panel.specs.declared.color.Cicp.{Cicp}
 use Rattle.panel_codes.specs.Codes.{◌and_then◌, depth_named, orientation_named, yes_no, cicp_named}
 use Rattle.panel_codes.specs.declared.UnknownCode.{UnknownCode}
 use Rattle.c_types.specs.Lent.{Lent}
-use Rattle.c_types.specs.Plain.{dims_value, light_value}
+use Rattle.c_types.specs.Plain.{dims_value, visible_value, light_value}
 use Rattle.c_types.specs.declared.CicpCodes.{CicpCodes}
 use Rattle.c_types.specs.declared.ColorCodes.{ColorCodes}
 use Rattle.c_types.specs.declared.GainCodes.{GainCodes}
@@ -62,12 +62,14 @@ unfoldable pub panel_from : PanelCodes → Lent → Option Panel
 panel_from c l =
     depth_named c.bit_depth and_then λ depth.
     depth_named c.alpha_bit_depth and_then λ alpha_depth.
+    yes_no c.has_visible and_then λ has_visible.
     metadata_from c l.exif and_then λ metadata.
     colour_from c.color l.icc and_then λ colour.
     yes_no c.has_gain and_then λ has_gain.
     part_if has_gain (gain_from c.gain l) and_then λ gain.
     Some (record {
       dims = dims_value c;
+      visible = cond has_visible (Some (visible_value c)) None;
       depth = depth;
       alpha_depth = alpha_depth;
       tiles = l.tiles;

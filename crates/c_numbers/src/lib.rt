@@ -83,6 +83,7 @@ pub fn panel_from<'a>(c: PanelCodes, parts: &LentParts<'a>) -> Result<Panel<'a>,
 {
     let bit_depth = named(c.bit_depth as u16)?;
     let alpha_bit_depth = named(c.alpha_bit_depth as u16)?;
+    let has_visible: bool = named(c.has_visible as u16)?;
     let metadata = metadata_from(c, parts.exif)?;
     let color_meta = color_from(c.color, parts.icc)?;
     let has_gain = named(c.has_gain as u16)?;
@@ -94,6 +95,7 @@ pub fn panel_from<'a>(c: PanelCodes, parts: &LentParts<'a>) -> Result<Panel<'a>,
     };
     Ok(Panel {
         dims: c.dims(),
+        visible: has_visible.then_some(c.visible_size()),
         bit_depth,
         alpha_bit_depth,
         color: parts.color,

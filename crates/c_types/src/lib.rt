@@ -5,10 +5,10 @@
 
 ghost use Rattle.std.specs.Prelude.{◌≡◌};
 ghost use Rattle.c_types.specs.Told.{Tells};
-ghost use Rattle.c_types.specs.Plain.{dims_value, light_value};
+ghost use Rattle.c_types.specs.Plain.{dims_value, visible_value, light_value};
 
 use panel::metadata::ContentLightLevel;
-use panel::{GridDims, Tiles};
+use panel::{GridDims, Tiles, VisibleSize};
 
 // A colour encoding: three code points of ISO/IEC 23091-2, and 1 for the full range, else 0.
 #[repr(C)]
@@ -62,9 +62,12 @@ pub struct PanelCodes {
     pub max_pic_average_light_level: u16,
     pub color: ColorCodes,
     pub gain: GainCodes,
+    pub has_visible: u8,
+    pub visible_w: u32,
+    pub visible_h: u32,
 }
 
-// Methods and not From: a panel's codes are no grid and no light level, they hold one of each.
+// Methods and not From: a panel's codes are no grid, no visible size and no light level, they hold one of each.
 impl PanelCodes {
     // The tile grid.
     pub fn dims(self) -> GridDims
@@ -77,6 +80,16 @@ impl PanelCodes {
             tile_h: self.tile_h,
             full_w: self.full_w,
             full_h: self.full_h,
+        }
+    }
+
+    // The visible size, which is there where has_visible is 1.
+    pub fn visible_size(self) -> VisibleSize
+        ensures { result ≡ visible_value self }
+    {
+        VisibleSize {
+            w: self.visible_w,
+            h: self.visible_h,
         }
     }
 

@@ -16,6 +16,7 @@ use Rattle.heif.proofs.Colr.{length-first_colr, length-boxes-second_colr, length
 use Rattle.heif.proofs.Irot.{length-boxes-irot}
 use Rattle.heif.proofs.Imir.{length-boxes-imir}
 use Rattle.heif.proofs.Clli.{length-boxes-clli}
+use Rattle.heif.proofs.Clap.{length-boxes-clap}
 use Rattle.heif.proofs.Pixi.{pixi_inj}
 
 pub held-append : (l m : List (Role × List Box)) → held (l ‖ m) ≡ held l ‖ held m
@@ -43,5 +44,5 @@ module _ (w h depth : ℕ) where
 pub length-ipco : (p : Panel) → length (ipco p).body ≡ ipco_size p
 length-ipco p =
     simp
-    (length-boxes, length-boxes-append, length-boxes-second_colr, length-boxes-irot, length-boxes-imir, length-boxes-clli, length-boxes-gain_slots)
+    (length-boxes, length-boxes-append, length-boxes-second_colr, length-boxes-irot, length-boxes-imir, length-boxes-clli, length-boxes-clap, length-boxes-gain_slots)
     (omega (arith, length-first_colr p.colour.cicp p.colour.icc))

@@ -22,10 +22,12 @@ use Rattle.heif.specs.Ipco.{Role, tone_slots, slots}
 use Rattle.heif.specs.Ipma.{positions, Association, ◌with◌, each, turns, colour_tile_list, colour_grid_list, alpha_tile_list, alpha_grid_list}
 use Rattle.heif.specs.Ipma.{image_list, tone_list, colour_associations, alpha_associations, gain_associations, associations, association, ipma}
 use Rattle.heif.specs.Ipma.{association_size, turn_count, associated_items, gain_association_count, association_count, ipma_size}
+use Rattle.heif.specs.Clap.{clap_count}
 use Rattle.heif.specs.Colr.{second_colr_count, alternates_count}
 use Rattle.heif.proofs.Items.{length-ids_from, length-given}
 use Rattle.heif.proofs.Colr.{length-second_colr, length-alternates}
 use Rattle.heif.proofs.Clli.{length-clli}
+use Rattle.heif.proofs.Clap.{length-clap}
 use Rattle.panel.proofs.Agreement.{with_gain}
 
 -- whatever positions the roles have
@@ -73,14 +75,17 @@ width-associations p =
     let its = positions 1 (slots p) in
     let s = shape p in
     let t : length (turns its) ≡ turn_count p.metadata.orientation = simp (length-append, length-map, length-ids_from, length-optional) in
+    let v = clap_count p.visible in
+    let seen : length (colour_tile_list its) ≡ 3 + v = simp (length-map, length-ids_from, length-clap) (omega arith) in
+    let alpha_seen : length (alpha_tile_list its) ≡ 2 + v = simp (length-map, length-ids_from, length-clap) (omega arith) in
     let c : length (colour_grid_list its) ≡ 3 + second_colr_count p.colour.cicp p.colour.icc + cond (is_some p.metadata.light) 1 0 + length (turns its)
     = simp (length-append, length-ids_from, length-second_colr, length-clli) (omega arith) in
     omega (
       arith,
       width-append (colour_associations s its) (alpha_associations s its ‖ gain_associations s its),
       width-append (alpha_associations s its) (gain_associations s its),
-      width_picture 1 s.tiles (colour_grid s) (colour_tile_list its) (colour_grid_list its) {k = 3} refl,
-      width_picture (alpha_tile s) s.tiles (alpha_grid s) (alpha_tile_list its) (alpha_grid_list its) {k = 2} refl,
+      width_picture 1 s.tiles (colour_grid s) (colour_tile_list its) (colour_grid_list its) {k = 3 + v} seen,
+      width_picture (alpha_tile s) s.tiles (alpha_grid s) (alpha_tile_list its) (alpha_grid_list its) {k = 2 + v} alpha_seen,
       width-gain p p.gain ∙ ap (λ (k : ℕ). gain_association_count k p.gain) t,
       c,
       t,

@@ -5,6 +5,7 @@ pub mod Colr
 pub mod Irot
 pub mod Imir
 pub mod Clli
+pub mod Clap
 pub mod Ftyp
 pub mod Pitm
 pub mod Mdat
@@ -19,3 +20,4 @@ pub mod Grpl
 pub mod Meta
 pub mod File
 pub mod Refusal
+pub mod Aperture

@@ -1,6 +1,8 @@
--- What it says of a panel that no check holds; what check 8 passes, and when 1 and 8 are answered; and check 4 in the ordinary form.
+-- What it says of a panel that no check holds; what checks 22 and 8 pass, and when 1, 22 and 8 are answered; and check 4 in the ordinary
+-- form.
 use mathlib.Core.Path.{◌≡◌, sym, ◌∙◌}
 use mathlib.Core.Bool.{true, false}
+use Rattle.std.specs.Prelude.{Option, None, Some}
 use Prim.Native.Nat.{ℕ, ◌*◌, ◌^◌, ◌≤◌, ◌<◌}
 use native.Mathlib.Omega.{arith}
 use lib.Dec.{ltb}
@@ -10,10 +12,24 @@ use Rattle.octets.specs.Numbers.{total}
 use Rattle.octets.proofs.Tests.{or_absorbs}
 use Rattle.panel.specs.Panel.{Panel}
 use Rattle.panel.specs.Form.{Form, ordinary}
+use Rattle.panel.specs.Widths.{Of}
+use Rattle.panel.specs.declared.GridDims.{GridDims}
 use Rattle.panel.specs.declared.Shape.{Shape}
+use Rattle.panel.specs.declared.VisibleSize.{VisibleSize}
 use Rattle.heif.specs.Items.{shape, last_id, Even}
 use Rattle.heif.specs.File.{file}
-use Rattle.heif.specs.Refusal.{bad_grid, bad_axis, bad_cover, bad_items, refusal}
+use Rattle.heif.specs.Refusal.{bad_grid, bad_part, bad_visible, seen, bad_axis, bad_cover, bad_items, refusal}
+
+-- along one axis: something is visible, no more than is decoded, which fits in 32 bits with a sign
+pub record Part (s d : ℕ) : Type 0 where
+  pub some : 1 ≤ s
+  pub inside : s ≤ d
+  pub short : d < 2 ^ 31
+
+-- of a visible size
+pub record Seen (d : GridDims) (v : VisibleSize) : Type 0 where
+  pub width : Part v.w d.tile_w
+  pub height : Part v.h d.tile_h
 
 -- along one axis: no size is 0, and n tiles of a size are at least the full size
 pub record Covers (n t f : ℕ) : Type 0 where
@@ -26,8 +42,9 @@ pub record Accepted (f : Form) (p : Panel) : Type 0 where
   pub rows_most : p.dims.rows ≤ 256
   pub cols : 1 ≤ p.dims.cols
   pub cols_most : p.dims.cols ≤ 256
-  pub width : Covers p.dims.cols p.dims.tile_w p.dims.full_w
-  pub height : Covers p.dims.rows p.dims.tile_h p.dims.full_h
+  pub visible : Of (Seen p.dims) p.visible
+  pub width : Covers p.dims.cols (seen p.dims p.visible).w p.dims.full_w
+  pub height : Covers p.dims.rows (seen p.dims p.visible).h p.dims.full_h
   pub count : (shape p).tiles ≡ p.dims.rows * p.dims.cols
   pub alpha_count : length p.alpha.lengths ≡ p.dims.rows * p.dims.cols
   pub sum : total p.tiles.lengths ≡ length p.tiles.bytes
@@ -36,6 +53,17 @@ pub record Accepted (f : Form) (p : Panel) : Type 0 where
   pub few : (shape p).tiles ≤ 65535
   pub size : length (file f p) < 2 ^ 32
 
+-- check 22 along an axis passes a part that can be seen, and nothing else
+pub partial : (s d : ℕ) → Part s d → bad_part s d ≡ false
+partial s d c = grind (arith, c.some, c.inside, c.short)
+
+pub part : (s d : ℕ) → bad_part s d ≡ false → Part s d
+part s d e = record { some = grind (arith, e); inside = grind (arith, e); short = grind (arith, e) }
+
+visible_parts : (d : GridDims) (v : Option VisibleSize) → bad_visible d v ≡ false → Of (Seen d) v
+visible_parts d None e = tt
+visible_parts d (Some v) e = record { width = part v.w d.tile_w (grind (arith, e)); height = part v.h d.tile_h (grind (arith, e)) }
+
 -- check 8 along an axis passes what is covered, and nothing else
 pub covered : (n t f : ℕ) → Covers n t f → bad_axis n t f ≡ false
 covered n t f c = grind (arith, c.tile, c.full, c.reach)
@@ -43,14 +71,19 @@ covered n t f c = grind (arith, c.tile, c.full, c.reach)
 pub covers : (n t f : ℕ) → bad_axis n t f ≡ false → Covers n t f
 covers n t f e = record { tile = grind (arith, e); full = grind (arith, e); reach = grind (arith, e) }
 
--- which of several is answered: 1 before all else, then 8
+-- which of several is answered: 1 before all else, then 22, then 8
 pub side_first : (f : Form) (p : Panel) → bad_grid p.dims.rows p.dims.cols ≡ true → refusal f p ≡ 1
 unfolding refusal
 side_first f p e = rw e
 
-pub cover_next : (f : Form) (p : Panel) → bad_grid p.dims.rows p.dims.cols ≡ false → bad_cover p.dims ≡ true → refusal f p ≡ 8
+pub visible_next : (f : Form) (p : Panel) → bad_grid p.dims.rows p.dims.cols ≡ false → bad_visible p.dims p.visible ≡ true → refusal f p ≡ 22
 unfolding refusal
-cover_next f p e c = rw (e, c)
+visible_next f p e v = rw (e, v)
+
+pub cover_next : (f : Form) (p : Panel) → bad_grid p.dims.rows p.dims.cols ≡ false → bad_visible p.dims p.visible ≡ false
+    → bad_cover p.dims (seen p.dims p.visible) ≡ true → refusal f p ≡ 8
+unfolding refusal
+cover_next f p e v c = rw (e, v, c)
 
 pub accepted : (f : Form) (p : Panel) → refusal f p ≡ 0 → Accepted f p
 unfolding refusal
@@ -60,8 +93,9 @@ accepted f p e =
       rows_most = grind (arith, e);
       cols = grind (arith, e);
       cols_most = grind (arith, e);
-      width = covers p.dims.cols p.dims.tile_w p.dims.full_w (grind (arith, e));
-      height = covers p.dims.rows p.dims.tile_h p.dims.full_h (grind (arith, e));
+      visible = visible_parts p.dims p.visible (grind (arith, e));
+      width = covers p.dims.cols (seen p.dims p.visible).w p.dims.full_w (grind (arith, e));
+      height = covers p.dims.rows (seen p.dims p.visible).h p.dims.full_h (grind (arith, e));
       count = grind (arith, e);
       alpha_count = grind (arith, e);
       sum = grind (arith, e);
@@ -70,6 +104,15 @@ accepted f p e =
       few = grind (arith, e);
       size = grind (arith, e);
     }
+
+-- the visible size is what covers the picture, and where there is none the tiles themselves
+pub seen_covers : (f : Form) (p : Panel) (v : VisibleSize) → refusal f p ≡ 0 → p.visible ≡ Some v
+    → Covers p.dims.cols v.w p.dims.full_w × Covers p.dims.rows v.h p.dims.full_h
+seen_covers f p v a e = let h = accepted f p a in (rw e at h.width, rw e at h.height)
+
+pub tiles_cover : (f : Form) (p : Panel) → refusal f p ≡ 0 → p.visible ≡ None
+    → Covers p.dims.cols p.dims.tile_w p.dims.full_w × Covers p.dims.rows p.dims.tile_h p.dims.full_h
+tiles_cover f p a e = let h = accepted f p a in (rw e at h.width, rw e at h.height)
 
 pub even-accepted : (f : Form) (p : Panel) → Accepted f p → Even p
 even-accepted f p a = record { counts = a.alpha_count ∙ sym a.count; sum = a.sum; alpha_sum = a.alpha_sum }

@@ -5,6 +5,7 @@ use Rattle.octets.specs.Boxes.{Box, box, optional, boxes}
 use Rattle.panel.specs.Types.{bits, irot_steps, imir_axis}
 use Rattle.panel.specs.Panel.{Colour, Gain, Panel}
 use Rattle.panel.specs.declared.GridDims.{GridDims}
+use Rattle.panel.specs.declared.VisibleSize.{VisibleSize}
 use Rattle.panel.specs.declared.fmt.BitDepth.{BitDepth}
 use Rattle.panel.specs.declared.color.Cicp.{Cicp}
 use Rattle.panel.specs.declared.metadata.ContentLightLevel.{ContentLightLevel}
@@ -18,11 +19,12 @@ use Rattle.heif.specs.Ispe.{ispe, tone_ispe, ispe_size}
 use Rattle.heif.specs.Pixi.{pixi, pixi_size}
 use Rattle.heif.specs.Auxc.{auxC, auxC_size}
 use Rattle.heif.specs.Clli.{clli_payload, clli_size}
+use Rattle.heif.specs.Clap.{clap_payload, clap_size}
 
 -- ---- the properties in their order: a role, and the boxes that the panel has in it, which are one, or none, or two alternate colours
 
 pub data Role : Type 0 where
-  hvcC_colour ispe_tile ispe_whole colr_first pixi_colour hvcC_alpha pixi_alpha auxC_alpha colr_second irot imir clli : Role
+  hvcC_colour ispe_tile ispe_whole colr_first pixi_colour hvcC_alpha pixi_alpha auxC_alpha colr_second irot imir clli clap : Role
   hvcC_gain ispe_gain pixi_gain auxC_gain colr_gain ispe_tone pixi_tone colr_tone : Role
   deriving Discrete as Role-discrete
 
@@ -41,12 +43,13 @@ abbrev pub alpha_slots : BitDepth → List ℕ → List (Role × List Box)
 alpha_slots depth hvcc = (hvcC_alpha, hvcC hvcc ∷ []) ∷ (pixi_alpha, pixi 1 (bits depth) ∷ []) ∷ (auxC_alpha, auxC "urn:mpeg:hevc:2015:auxid:1" ∷ []) ∷ []
 
 -- those that may be absent
-abbrev pub option_slots : Colour → Orientation → Option ContentLightLevel → List (Role × List Box)
-option_slots c o light =
+abbrev pub option_slots : GridDims → Option VisibleSize → Colour → Orientation → Option ContentLightLevel → List (Role × List Box)
+option_slots d visible c o light =
     (colr_second, optional "colr" (second_colr c.cicp c.icc))
     ∷ (irot, optional "irot" (irot_payload (irot_steps o)))
     ∷ (imir, optional "imir" (imir_payload (imir_axis o)))
     ∷ (clli, optional "clli" (clli_payload light))
+    ∷ (clap, optional "clap" (clap_payload d visible))
     ∷ []
 
 -- the gain image's
@@ -74,7 +77,7 @@ abbrev pub slots : Panel → List (Role × List Box)
 slots p =
     colour_slots p.dims p.depth p.tiles.hvcc p.colour
     ‖ alpha_slots p.alpha_depth p.alpha.hvcc
-    ‖ option_slots p.colour p.metadata.orientation p.metadata.light
+    ‖ option_slots p.dims p.visible p.colour p.metadata.orientation p.metadata.light
     ‖ gain_slots (tone_ispe p.dims p.metadata.orientation) (pixi 3 (max (bits p.depth) 10)) p.gain
 
 -- the boxes of these slots
@@ -115,11 +118,13 @@ colour_properties_size hvcc c = hvcC_size hvcc + (ispe_size + (ispe_size + (firs
 abbrev pub alpha_properties_size : List ℕ → ℕ
 alpha_properties_size hvcc = hvcC_size hvcc + (pixi_size 1 + auxC_size 26)
 
--- what is present of the second colr, irot, imir and clli
-abbrev pub optional_properties_size : Colour → Orientation → Option ContentLightLevel → ℕ
-optional_properties_size c o light = second_colr_size c.cicp c.icc + (irot_size (irot_steps o) + (imir_size (imir_axis o) + clli_size light))
+-- what is present of the second colr, irot, imir, clli and clap
+abbrev pub optional_properties_size : Option VisibleSize → Colour → Orientation → Option ContentLightLevel → ℕ
+optional_properties_size visible c o light =
+    second_colr_size c.cicp c.icc + (irot_size (irot_steps o) + (imir_size (imir_axis o) + (clli_size light + clap_size visible)))
 
 abbrev pub ipco_size : Panel → ℕ
 ipco_size p =
     colour_properties_size p.tiles.hvcc p.colour
-    + (alpha_properties_size p.alpha.hvcc + (optional_properties_size p.colour p.metadata.orientation p.metadata.light + gain_properties_size p.gain))
+    + (alpha_properties_size p.alpha.hvcc
+    + (optional_properties_size p.visible p.colour p.metadata.orientation p.metadata.light + gain_properties_size p.gain))

@@ -15,6 +15,7 @@ use Rattle.heif.specs.Colr.{second_colr_count}
 use Rattle.heif.specs.Irot.{irot_count}
 use Rattle.heif.specs.Imir.{imir_count}
 use Rattle.heif.specs.Clli.{clli_count}
+use Rattle.heif.specs.Clap.{clap_count}
 
 -- the positions of a role's boxes, counted along the properties from `at` on
 abbrev pub positions : ℕ → List (Ipco.Role × List Box) → Ipco.Role → List ℕ
@@ -40,18 +41,18 @@ each first n l = map (λ id. id with l) (ids_from first n)
 
 -- ---- what each item is associated with, descriptive properties before the transforms; its r are the positions of the role r
 
--- the transforms
+-- rotation and mirroring
 abbrev pub turns : (Ipco.Role → List ℕ) → List ℕ
 turns its = essential (its Ipco.irot) ‖ essential (its Ipco.imir)
 
 abbrev pub colour_tile_list : (Ipco.Role → List ℕ) → List ℕ
-colour_tile_list its = essential (its Ipco.hvcC_colour) ‖ essential (its Ipco.ispe_tile) ‖ essential (its Ipco.colr_first)
+colour_tile_list its = essential (its Ipco.hvcC_colour) ‖ essential (its Ipco.ispe_tile) ‖ essential (its Ipco.colr_first) ‖ essential (its Ipco.clap)
 
 abbrev pub colour_grid_list : (Ipco.Role → List ℕ) → List ℕ
 colour_grid_list its = its Ipco.ispe_whole ‖ essential (its Ipco.colr_first) ‖ its Ipco.pixi_colour ‖ its Ipco.colr_second ‖ its Ipco.clli ‖ turns its
 
 abbrev pub alpha_tile_list : (Ipco.Role → List ℕ) → List ℕ
-alpha_tile_list its = essential (its Ipco.hvcC_alpha) ‖ essential (its Ipco.ispe_tile)
+alpha_tile_list its = essential (its Ipco.hvcC_alpha) ‖ essential (its Ipco.ispe_tile) ‖ essential (its Ipco.clap)
 
 abbrev pub alpha_grid_list : (Ipco.Role → List ℕ) → List ℕ
 alpha_grid_list its = its Ipco.ispe_whole ‖ its Ipco.pixi_alpha ‖ its Ipco.auxC_alpha ‖ turns its
@@ -89,7 +90,7 @@ ipma f l = full "ipma" f.step 0 (be 4 (length l) ‖ flat_map (association f) l)
 abbrev pub association_size : Form → ℕ → ℕ
 association_size f k = f.id + 1 + k
 
--- how many transforms an orientation has
+-- how many of irot and imir an orientation has
 abbrev pub turn_count : Orientation → ℕ
 turn_count o = irot_count o + imir_count o
 
@@ -102,11 +103,12 @@ abbrev pub gain_association_count : ℕ → Option Gain → ℕ
 gain_association_count t None = 0
 gain_association_count t (Some g) = t + gain_property_count (Some g)
 
--- a colour tile has three, an alpha tile two; each grid has three and the transforms, and the colour grid what is present of the second colr and clli
+-- a colour tile has three, an alpha tile two, and each the clap; each grid has three and what turns it, and the colour grid what is present
+-- of the second colr and clli
 abbrev pub association_count : Panel → ℕ
 association_count p =
     let t = turn_count p.metadata.orientation in
-    5 * (shape p).tiles + (3 + second_colr_count p.colour.cicp p.colour.icc + clli_count p.metadata.light + t) + (3 + t)
+    (5 + 2 * clap_count p.visible) * (shape p).tiles + (3 + second_colr_count p.colour.cicp p.colour.icc + clli_count p.metadata.light + t) + (3 + t)
     + gain_association_count t p.gain
 
 abbrev pub ipma_size : Form → Panel → ℕ

@@ -7,6 +7,8 @@ pub mod Auxc
 pub mod Irot
 pub mod Imir
 pub mod Clli
+pub mod Clap
+pub mod Aperture
 pub mod Ftyp
 pub mod Hdlr
 pub mod Pitm

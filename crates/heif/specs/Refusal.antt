@@ -1,9 +1,10 @@
 -- Why a panel is refused: the number of the first check that holds, or 0.
-use Rattle.std.specs.Prelude.{Bool, true, false, ◌||◌, not, List, [], ◌∷◌, ℕ, ◌*◌, ◌^◌, ltb, leb, eqb, length}
+use Rattle.std.specs.Prelude.{Bool, true, false, ◌||◌, not, List, [], ◌∷◌, ℕ, ◌*◌, ◌^◌, ltb, leb, eqb, length, Option, None, Some}
 use Rattle.octets.specs.Numbers.{◌‖◌, total}
 use Rattle.panel.specs.Panel.{Tiles, Panel}
 use Rattle.panel.specs.Form.{Form}
 use Rattle.panel.specs.declared.GridDims.{GridDims}
+use Rattle.panel.specs.declared.VisibleSize.{VisibleSize}
 use Rattle.panel.specs.declared.Shape.{Shape}
 use Rattle.heif.specs.Items.{shape, last_id}
 use Rattle.heif.specs.File.{file}
@@ -14,13 +15,27 @@ bad_side n = ltb n 1 || ltb 256 n
 abbrev pub bad_grid : ℕ → ℕ → Bool
 bad_grid rows cols = bad_side rows || bad_side cols
 
+-- along one axis: nothing is visible, or more than is decoded, or what is decoded does not fit in 32 bits with a sign
+abbrev pub bad_part : ℕ → ℕ → Bool
+bad_part visible decoded = eqb visible 0 || ltb decoded visible || ltb 2147483647 decoded
+
+-- of a visible size, where there is one
+abbrev pub bad_visible : GridDims → Option VisibleSize → Bool
+bad_visible d None = false
+bad_visible d (Some v) = bad_part v.w d.tile_w || bad_part v.h d.tile_h
+
+-- what is seen of a tile: the visible size, or all that is decoded
+abbrev pub seen : GridDims → Option VisibleSize → VisibleSize
+seen d None = record { w = d.tile_w; h = d.tile_h }
+seen d (Some v) = v
+
 -- 23008-12, 6.6.2.3, along one axis: a size is 0, or n tiles of a size are less than the full size
 abbrev pub bad_axis : ℕ → ℕ → ℕ → Bool
 bad_axis n tile full = eqb tile 0 || eqb full 0 || ltb (n * tile) full
 
--- a size is 0, or the tiles don't cover the picture
-abbrev pub bad_cover : GridDims → Bool
-bad_cover d = bad_axis d.cols d.tile_w d.full_w || bad_axis d.rows d.tile_h d.full_h
+-- a size is 0, or what is seen of the tiles doesn't cover the picture
+abbrev pub bad_cover : GridDims → VisibleSize → Bool
+bad_cover d v = bad_axis d.cols v.w d.full_w || bad_axis d.rows v.h d.full_h
 
 abbrev pub differ : ℕ → ℕ → Bool
 differ m n = not (eqb m n)
@@ -60,7 +75,8 @@ first (c ∷ l) = elim (c.holds tt) [ true ↦ c.number | false ↦ first l ]
 abbrev pub checks : Form → ℕ → Panel → List Check
 checks f n p =
     check 1 (λ _. bad_grid p.dims.rows p.dims.cols)
-    ∷ check 8 (λ _. bad_cover p.dims)
+    ∷ check 22 (λ _. bad_visible p.dims p.visible)
+    ∷ check 8 (λ _. bad_cover p.dims (seen p.dims p.visible))
     ∷ check 2 (λ _. bad_counts (p.dims.rows * p.dims.cols) (length p.tiles.lengths) (length p.alpha.lengths))
     ∷ check 3 (λ _. bad_sum p.tiles || bad_sum p.alpha)
     ∷ check 4 (λ _. bad_items f (shape p))

@@ -12,11 +12,14 @@ use Rattle.panel.specs.Panel.{Colour, Gain, Panel}
 use Rattle.panel.specs.Form.{ordinary}
 use Rattle.panel.specs.Parts.{given, tone_of, long}
 use Rattle.panel.specs.declared.GridDims.{GridDims}
+use Rattle.panel.specs.declared.VisibleSize.{VisibleSize}
 use Rattle.panel.specs.declared.color.Cicp.{Cicp}
 use Rattle.heif.specs.Idat.{wide, idat_size}
 use Rattle.heif.specs.File.{file, size}
 use Rattle.heif.specs.Refusal.{refusal}
 use Rattle.heif.specs.Items.{Even}
+use Rattle.heif.specs.Clap.{clap_count, clap_size}
+use Rattle.heif.specs.Items.{shape}
 use Rattle.heif.specs.Colr.{first_colr_size, second_colr_count, second_colr_size, alternates_count, stated_size, alternates_size}
 use Rattle.heif.specs.Ipma.{turn_count, gain_association_count}
 use Rattle.heif.specs.Ipco.{tone_properties_size, gain_properties_size}
@@ -24,7 +27,7 @@ use Rattle.heif.specs.Iref.{reference_size}
 use Rattle.heif.specs.Mdat.{exif_size, gain_data_size}
 use Rattle.heif.proofs.Refusal.{accepted, even-accepted}
 use Rattle.heif.proofs.File.{length-file}
-use Rattle.heif_length.specs.Shares.{Extra, wide_grid, alternate_cicp, share, exif_extras, colour_extras, profile_extras, alternate_extras}
+use Rattle.heif_length.specs.Shares.{Extra, wide_grid, alternate_cicp, share, visible_extras, exif_extras, colour_extras, profile_extras, alternate_extras}
 use Rattle.heif_length.specs.Shares.{tone_extras, gain_extras, extras, bare, replaced_colr, replaced, meetings}
 
 -- what extras add together
@@ -48,6 +51,11 @@ grid-shares d = either (wide d)
     either : (b : Bool) → 16 + share wide_grid * cond b 1 0 ≡ 2 * cond b 12 8
     either true = refl
     either false = refl
+
+-- ipco, and ipma for each tile
+visible-shares : (n : ℕ) (v : Option VisibleSize) → shares (visible_extras n v) ≡ clap_size v + 2 * clap_count v * n
+visible-shares n None = omega arith
+visible-shares n (Some v) = omega arith
 
 -- iloc and iinf, iref, mdat
 exif-shares : (e : Option (List ℕ)) → shares (exif_extras e) ≡ (16 + 21) * cond (is_some e) 1 0 + cond (is_some e) (reference_size ordinary 1) 0 + exif_size e
@@ -101,6 +109,7 @@ size_as_sum p =
     (omega (
       arith,
       grid-shares p.dims,
+      visible-shares (shape p).tiles p.visible,
       exif-shares p.metadata.exif,
       colour-shares p.colour.cicp p.colour.icc,
       gain-shares (turn_count p.metadata.orientation) p.gain,

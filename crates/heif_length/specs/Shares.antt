@@ -5,6 +5,7 @@ use Rattle.panel.specs.Types.{irot_steps, imir_axis}
 use Rattle.panel.specs.Panel.{Colour, Gain, Panel}
 use Rattle.panel.specs.Parts.{given}
 use Rattle.panel.specs.declared.GridDims.{GridDims}
+use Rattle.panel.specs.declared.VisibleSize.{VisibleSize}
 use Rattle.panel.specs.declared.color.Cicp.{Cicp}
 use Rattle.panel.specs.declared.metadata.Orientation.{Orientation}
 use Rattle.heif.specs.Items.{shape}
@@ -21,6 +22,7 @@ pub data Extra : Type 0 where
   irot : Extra
   imir : Extra
   light_level : Extra
+  visible_size : (tiles : ℕ) → Extra
   exif : (bytes : ℕ) → Extra
   icc_alone : (bytes : ℕ) → Extra
   icc_beside_cicp : (bytes : ℕ) → Extra
@@ -35,6 +37,7 @@ share wide_grid = 8
 share irot = 11
 share imir = 11
 share light_level = 13
+share (visible_size n) = 40 + 2 * n
 share (exif e) = 55 + e
 share (icc_alone c) = 12 + c
 share (icc_beside_cicp c) = 13 + c
@@ -51,6 +54,11 @@ grid_extras d = given (wide d) (wide_grid ∷ [])
 
 abbrev pub turn_extras : Orientation → List Extra
 turn_extras o = given (is_some (irot_payload (irot_steps o))) (irot ∷ []) ‖ given (is_some (imir_payload (imir_axis o))) (imir ∷ [])
+
+-- of n tiles in a picture
+abbrev pub visible_extras : ℕ → Option VisibleSize → List Extra
+visible_extras n None = []
+visible_extras n (Some v) = visible_size n ∷ []
 
 abbrev pub exif_extras : Option (List ℕ) → List Extra
 exif_extras None = []
@@ -83,6 +91,7 @@ extras p =
     grid_extras p.dims
     ‖ turn_extras p.metadata.orientation
     ‖ given (is_some p.metadata.light) (light_level ∷ [])
+    ‖ visible_extras (shape p).tiles p.visible
     ‖ exif_extras p.metadata.exif
     ‖ colour_extras p.colour.cicp p.colour.icc
     ‖ gain_extras p.gain

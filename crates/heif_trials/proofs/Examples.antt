@@ -1,11 +1,11 @@
 -- The theorem on equal files is not empty: panels that it speaks of, a pair that agrees without being equal, and pairs with other bytes.
-use Rattle.std.specs.Prelude.{option_to_list}
+use Rattle.std.specs.Prelude.{option_to_list, pos}
 use mathlib.Core.Path.{◌≡◌, refl, ap}
 use mathlib.Core.List.{List, ◌∷◌, flatten, flat_map}
 use Prim.Native.Nat.{ℕ}
 use native.Mathlib.Omega.{arith}
 use lib.ListN.{length, get_or, take, drop}
-use Rattle.octets.specs.Numbers.{◌‖◌}
+use Rattle.octets.specs.Numbers.{◌‖◌, be}
 use Rattle.octets.specs.Boxes.{boxes}
 use Rattle.panel.specs.Panel.{Panel}
 use Rattle.panel.specs.Types.{bits}
@@ -14,19 +14,20 @@ use Rattle.panel.specs.Agreement.{norm, Agree}
 use Rattle.panel.specs.Widths.{Fits}
 use Rattle.panel.specs.Form.{ordinary}
 use Rattle.heif.specs.File.{file}
+use Rattle.heif.specs.Aperture.{whole, ◌is◌, first_column}
 use Rattle.heif.specs.Refusal.{refusal}
 use Rattle.heif_unique.proofs.Unique.{same_files}
-use Rattle.heif_trials.specs.Panels.{panel_p, panel_p_stated, panel_p_other, at_depths}
+use Rattle.heif_trials.specs.Panels.{panel_p, panel_p_stated, panel_p_other, seen_as, at_depths}
 
 pub panel_p-fits : Fits panel_p
-panel_p-fits = record { dims = record { tile_w = omega arith; tile_h = omega arith; full_w = omega arith; full_h = omega arith }; light = tt; gain = tt }
+panel_p-fits = record { dims = record { tile_w = omega arith; tile_h = omega arith; full_w = omega arith; full_h = omega arith }; visible = tt; light = tt; gain = tt }
 
 pub panel_p-accepted : refusal ordinary panel_p ≡ 0
 unfolding boxes flatten flat_map file refusal
 panel_p-accepted = refl
 
 pub panel_p_other-fits : Fits panel_p_other
-panel_p_other-fits = record { dims = record { tile_w = omega arith; tile_h = omega arith; full_w = omega arith; full_h = omega arith }; light = tt; gain = tt }
+panel_p_other-fits = record { dims = record { tile_w = omega arith; tile_h = omega arith; full_w = omega arith; full_h = omega arith }; visible = tt; light = tt; gain = tt }
 
 panel_p_other-accepted : refusal ordinary panel_p_other ≡ 0
 unfolding boxes flatten flat_map file refusal
@@ -53,3 +54,32 @@ other_disagrees h = other-bytes ((same_files ordinary panel_p panel_p_other pane
 pub alpha_depth_byte : (d a : BitDepth) → let f = file ordinary (at_depths d d panel_p) in file ordinary (at_depths d a panel_p) ≡ take 443 f ‖ bits a ∷ drop 444 f
 unfolding boxes flatten flat_map file
 alpha_depth_byte d a = refl
+
+-- P with a visible size, and all of its tile seen, shows what P shows, and is another panel with another file
+pub whole_tile-fits : Fits (seen_as 64 64 panel_p)
+whole_tile-fits =
+    record {
+      dims = record { tile_w = omega arith; tile_h = omega arith; full_w = omega arith; full_h = omega arith };
+      visible = record { w = omega arith; h = omega arith };
+      light = tt;
+      gain = tt;
+    }
+
+whole_tile-accepted : refusal ordinary (seen_as 64 64 panel_p) ≡ 0
+unfolding boxes flatten flat_map file refusal
+whole_tile-accepted = refl
+
+whole_tile-longer : file ordinary panel_p ≡ file ordinary (seen_as 64 64 panel_p) → ⊥
+unfolding boxes flatten flat_map file
+whole_tile-longer e = let z : ◌≡◌ {A = ℕ} 556 598 = ap length e in omega arith
+
+pub whole_tile_disagrees : Agree panel_p (seen_as 64 64 panel_p) → ⊥
+whole_tile_disagrees h = whole_tile-longer ((same_files ordinary panel_p (seen_as 64 64 panel_p) panel_p-fits whole_tile-fits panel_p-accepted whole_tile-accepted).1 h)
+
+-- what a clean aperture shows depends on its offset: 63 columns in the middle of 64 begin with half of the first
+pub middle_begins_at_half : first_column 64 (be 4 63 ‖ be 4 1 ‖ be 4 61 ‖ be 4 1 ‖ be 4 0 ‖ be 4 2 ‖ be 4 0 ‖ be 4 2) is (record { numerator = pos 1; denominator = 2 })
+middle_begins_at_half = record { defined = omega arith; defined_too = omega arith; same = refl }
+
+-- and half a column to the right of that they begin with the second
+pub right_begins_at_one : first_column 64 (be 4 63 ‖ be 4 1 ‖ be 4 61 ‖ be 4 1 ‖ be 4 1 ‖ be 4 2 ‖ be 4 0 ‖ be 4 2) is whole (pos 1)
+right_begins_at_one = record { defined = omega arith; defined_too = omega arith; same = refl }

@@ -14,6 +14,7 @@ abbrev pub column : ℕ → ℕ → ℕ → Colour → Metadata → Option Gain 
 column rows width c colour metadata gain =
     record {
       dims = record { cols = 1; rows = rows; tile_w = width; tile_h = 64; full_w = width; full_h = 64 };
+      visible = None;
       depth = Eight;
       alpha_depth = Eight;
       tiles = record { hvcc = 0x01 ∷ 0x01 ∷ []; lengths = replicate rows 1; bytes = replicate rows c };
@@ -68,16 +69,31 @@ panel_p_tone =
 
 -- the panel with another grid
 abbrev pub on_grid : GridDims → Panel → Panel
-on_grid d p = record { dims = d; depth = p.depth; alpha_depth = p.alpha_depth; tiles = p.tiles; alpha = p.alpha; colour = p.colour; metadata = p.metadata; gain = p.gain }
+on_grid d p = record { dims = d; visible = p.visible; depth = p.depth; alpha_depth = p.alpha_depth; tiles = p.tiles; alpha = p.alpha; colour = p.colour; metadata = p.metadata; gain = p.gain }
 
 -- P with other sizes, of its tile and of its picture
 abbrev pub panel_p_sized : ℕ → ℕ → ℕ → ℕ → Panel
 panel_p_sized tile_w tile_h full_w full_h =
     on_grid (record { cols = 1; rows = 1; tile_w = tile_w; tile_h = tile_h; full_w = full_w; full_h = full_h }) panel_p
 
+-- the panel, of whose tiles so much is seen
+abbrev pub seen_as : ℕ → ℕ → Panel → Panel
+seen_as w h p =
+    record {
+      dims = p.dims;
+      visible = Some (record { w = w; h = h });
+      depth = p.depth;
+      alpha_depth = p.alpha_depth;
+      tiles = p.tiles;
+      alpha = p.alpha;
+      colour = p.colour;
+      metadata = p.metadata;
+      gain = p.gain;
+    }
+
 -- the panel with other depths, of colour and alpha
 abbrev pub at_depths : BitDepth → BitDepth → Panel → Panel
-at_depths d a p = record { dims = p.dims; depth = d; alpha_depth = a; tiles = p.tiles; alpha = p.alpha; colour = p.colour; metadata = p.metadata; gain = p.gain }
+at_depths d a p = record { dims = p.dims; visible = p.visible; depth = d; alpha_depth = a; tiles = p.tiles; alpha = p.alpha; colour = p.colour; metadata = p.metadata; gain = p.gain }
 
 -- P with its colour stated as unspecified full-range
 abbrev pub panel_p_stated : Panel

@@ -1,10 +1,12 @@
--- The lettered trials, (a) to (k), with those of the Exif's marker and of the alpha depth, in one table with those of sizes.
+-- The lettered trials, (a) to (k), with those of the Exif's marker and of the alpha depth, in one table with those of sizes and of a
+-- visible size.
 use Rattle.std.specs.Prelude.{List, [], ◌∷◌}
 use Rattle.octets.specs.Numbers.{◌‖◌, be, text}
 use Rattle.panel.specs.declared.fmt.BitDepth.TheVariants.{Eight, Twelve}
 use Rattle.heif_trials.specs.Panels
 use Rattle.heif_trials.specs.Trials.{box_at, bytes_at, item, payload, property, associated, Trial, fits, refuses}
 use Rattle.heif_trials.specs.Sizes.{sizes}
+use Rattle.heif_trials.specs.Visible.{visible}
 
 -- (a) P: the brand, the twelve boxes, and the two samples
 abbrev pub a : Trial
@@ -119,4 +121,4 @@ k_alpha_twelve =
     ∷ [])
 
 abbrev pub table : List Trial
-table = a ∷ b ∷ c ∷ d ∷ e ∷ f ∷ g ∷ h ∷ h_marked ∷ h_cut ∷ h_late ∷ i ∷ j ∷ k ∷ k_alpha_eight ∷ k_alpha_twelve ∷ sizes
+table = a ∷ b ∷ c ∷ d ∷ e ∷ f ∷ g ∷ h ∷ h_marked ∷ h_cut ∷ h_late ∷ i ∷ j ∷ k ∷ k_alpha_eight ∷ k_alpha_twelve ∷ sizes ‖ visible

@@ -13,7 +13,7 @@ use Rattle.panel.specs.declared.color.Cicp.{Cicp}
 use Rattle.panel.proofs.Agreement.{put, alter}
 use Rattle.heif.specs.Items.{shape}
 use Rattle.heif.specs.File.{file}
-use Rattle.heif.specs.Refusal.{bad_grid, bad_cover, bad_counts, bad_sum, bad_items, too_long, check, first, refusal}
+use Rattle.heif.specs.Refusal.{bad_grid, bad_visible, seen, bad_cover, bad_counts, bad_sum, bad_items, too_long, check, first, refusal}
 
 -- ---- the file
 
@@ -69,7 +69,8 @@ refusal-norm f p =
     let s = shape-norm p in
     λ i.
     first (check 1 (λ _. bad_grid p.dims.rows p.dims.cols)
-    ∷ check 8 (λ _. bad_cover p.dims)
+    ∷ check 22 (λ _. bad_visible p.dims p.visible)
+    ∷ check 8 (λ _. bad_cover p.dims (seen p.dims p.visible))
     ∷ check 2 (λ _. bad_counts (p.dims.rows * p.dims.cols) (length p.tiles.lengths) (length p.alpha.lengths))
     ∷ check 3 (λ _. bad_sum p.tiles || bad_sum p.alpha)
     ∷ check 4 (λ _. bad_items f (s i))

@@ -18,11 +18,13 @@ use Rattle.heif.specs.Pixi.{pixi}
 use Rattle.heif.specs.Irot.{irot_payload}
 use Rattle.heif.specs.Imir.{imir_payload}
 use Rattle.heif.specs.Clli.{clli_payload}
+use Rattle.heif.specs.Clap.{clap_payload}
 use Rattle.heif.specs.Ispe.{tone_ispe}
 use Rattle.heif.specs.Ipco.{tone_slots, gain_slots, held, properties}
 use Rattle.heif.proofs.Colr.{nclx_inj, colour_inj, alternates_inj}
 use Rattle.heif.proofs.Imir.{orientation_inj}
 use Rattle.heif.proofs.Clli.{clli_inj}
+use Rattle.heif.proofs.Clap.{clap_inj}
 use Rattle.heif.proofs.Ispe.{ispe_inj}
 use Rattle.heif.proofs.Pixi.{pixi_inj}
 use Rattle.heif.proofs.Ipco.{depths_told}
@@ -91,7 +93,7 @@ gain_leads s d (Some g) = leads_first "hvcC" g.hvcc _
 
 -- the optional ones
 abbrev kinds : List String
-kinds = "colr" ∷ "irot" ∷ "imir" ∷ "clli" ∷ []
+kinds = "colr" ∷ "irot" ∷ "imir" ∷ "clli" ∷ "clap" ∷ []
 
 abbrev options : Panel → List (Option (List ℕ))
 options p =
@@ -99,6 +101,7 @@ options p =
     ∷ irot_payload (irot_steps p.metadata.orientation)
     ∷ imir_payload (imir_axis p.metadata.orientation)
     ∷ clli_payload p.metadata.light
+    ∷ clap_payload p.dims p.visible
     ∷ []
 
 option_at : ℕ → List (Option (List ℕ)) → Option (List ℕ)
@@ -114,6 +117,7 @@ pub record SameFields (p q : Panel) : Type 0 where
   pub colour : stated p.colour.cicp p.colour.icc ≡ stated q.colour.cicp q.colour.icc
   pub orientation : p.metadata.orientation ≡ q.metadata.orientation
   pub light : p.metadata.light ≡ q.metadata.light
+  pub visible : p.visible ≡ q.visible
   pub gain : gain_props p ≡ gain_props q
 
 pub same-fields : (p q : Panel) → Fits p → Fits q → properties p ≡ properties q → SameFields p q
@@ -132,5 +136,6 @@ same-fields p q fp fq e =
       colour = colour_inj p.colour.cicp q.colour.cicp p.colour.icc q.colour.icc (ap (body_at 3) e) (at 0);
       orientation = orientation_inj p.metadata.orientation q.metadata.orientation (at 1) (at 2);
       light = clli_inj p.metadata.light q.metadata.light fp.light fq.light (at 3);
+      visible = clap_inj p.dims q.dims p.visible q.visible fp.visible fq.visible (at 4);
       gain = a.1;
     }

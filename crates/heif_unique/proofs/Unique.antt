@@ -135,6 +135,7 @@ module _ (f : Form) where
         record {
           same = λ i. record {
             dims = record { cols = s.1 i; rows = s.0 i; tile_w = k.tile.0 i; tile_h = k.tile.1 i; full_w = k.whole.0 i; full_h = k.whole.1 i };
+            visible = k.visible i;
             depth = k.depth i;
             alpha_depth = k.alpha_depth i;
             tiles = record { hvcc = k.hvcc i; lengths = c.lengths i; bytes = c.bytes i };

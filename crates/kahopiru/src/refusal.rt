@@ -11,7 +11,7 @@ use panel_codes::UnknownCode;
 pub enum CallRefusal {
     // 13: a code stands for nothing.
     Code,
-    // 1, 8 or 2 to 6: the panel is refused.
+    // 1, 22, 8 or 2 to 6: the panel is refused.
     Panel(Refusal),
 }
 

@@ -10,7 +10,18 @@ use Rattle.panel.specs.declared.color.Cicp.{Cicp}
 
 -- p with another colour and another gain map
 abbrev pub put : Panel → Colour → Option Gain → Panel
-put p c g = record { dims = p.dims; depth = p.depth; alpha_depth = p.alpha_depth; tiles = p.tiles; alpha = p.alpha; colour = c; metadata = p.metadata; gain = g }
+put p c g =
+    record {
+      dims = p.dims;
+      visible = p.visible;
+      depth = p.depth;
+      alpha_depth = p.alpha_depth;
+      tiles = p.tiles;
+      alpha = p.alpha;
+      colour = c;
+      metadata = p.metadata;
+      gain = g;
+    }
 
 -- p with another gain map alone; with its own it is the panel again
 abbrev pub with_gain : Panel → Option Gain → Panel
@@ -36,6 +47,7 @@ alter g t a =
 -- the fields that neither agreement speaks of
 pub record Alike (p q : Panel) : Type 0 where
   pub dims : p.dims ≡ q.dims
+  pub visible : p.visible ≡ q.visible
   pub depth : p.depth ≡ q.depth
   pub alpha_depth : p.alpha_depth ≡ q.alpha_depth
   pub tiles : p.tiles ≡ q.tiles
@@ -49,6 +61,7 @@ unfolding norm
 alike p q a =
     record {
       dims = ap (λ (r : Panel). r.dims) a.same;
+      visible = ap (λ (r : Panel). r.visible) a.same;
       depth = ap (λ (r : Panel). r.depth) a.same;
       alpha_depth = ap (λ (r : Panel). r.alpha_depth) a.same;
       tiles = ap (λ (r : Panel). r.tiles) a.same;

@@ -41,6 +41,7 @@ unfoldable pub norm : Panel → Panel
 norm p =
     record {
       dims = p.dims;
+      visible = p.visible;
       depth = p.depth;
       alpha_depth = p.alpha_depth;
       tiles = p.tiles;

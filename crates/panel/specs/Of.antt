@@ -34,6 +34,7 @@ unfoldable pub panel_of : LentPanel → Panel
 panel_of p =
     record {
       dims = p.dims;
+      visible = p.visible;
       depth = p.bit_depth;
       alpha_depth = p.alpha_bit_depth;
       tiles = tiles_of p.color;

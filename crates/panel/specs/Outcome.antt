@@ -1,7 +1,7 @@
 -- What a call answers: the file's length, or the number of a refusal.
 use Rattle.std.specs.Prelude.{ℕ, zero, suc, Result, Ok, Err}
 use Rattle.panel.specs.declared.Refusal.{Refusal}
-use Rattle.panel.specs.declared.Refusal.TheVariants.{GridSide, Cover, TileCount, SampleLengths, ItemIds, FileLength, OutputLength}
+use Rattle.panel.specs.declared.Refusal.TheVariants.{GridSide, VisibleSize, Cover, TileCount, SampleLengths, ItemIds, FileLength, OutputLength}
 
 -- the file's length, or the number of a refusal
 pub data Outcome : Type 0 where
@@ -10,6 +10,7 @@ pub data Outcome : Type 0 where
 
 abbrev pub number : Refusal → ℕ
 number GridSide = 1
+number VisibleSize = 22
 number Cover = 8
 number TileCount = 2
 number SampleLengths = 3

@@ -1,6 +1,7 @@
 -- A panel: the numbers and bytes that a file is made of.
 use Rattle.std.specs.Prelude.{Option, List, ℕ}
 use Rattle.panel.specs.declared.GridDims.{GridDims}
+use Rattle.panel.specs.declared.VisibleSize.{VisibleSize}
 use Rattle.panel.specs.declared.color.Cicp.{Cicp}
 use Rattle.panel.specs.declared.fmt.BitDepth.{BitDepth}
 use Rattle.panel.specs.declared.metadata.ContentLightLevel.{ContentLightLevel}
@@ -34,6 +35,7 @@ pub record Gain : Type 0 where
 
 pub record Panel : Type 0 where
   pub dims : GridDims
+  pub visible : Option VisibleSize
   pub depth : BitDepth
   pub alpha_depth : BitDepth
   pub tiles : Tiles

@@ -2,6 +2,7 @@
 use Rattle.std.specs.Prelude.{Option, None, Some, ◌^◌, ◌<◌}
 use Rattle.panel.specs.Panel.{Gain, Panel}
 use Rattle.panel.specs.declared.GridDims.{GridDims}
+use Rattle.panel.specs.declared.VisibleSize.{VisibleSize}
 use Rattle.panel.specs.declared.metadata.ContentLightLevel.{ContentLightLevel}
 
 -- P of what is present
@@ -23,7 +24,12 @@ pub record DimsFit (d : GridDims) : Type 0 where
   pub full_w : d.full_w < 2 ^ 32
   pub full_h : d.full_h < 2 ^ 32
 
+pub record VisibleFits (v : VisibleSize) : Type 0 where
+  pub w : v.w < 2 ^ 32
+  pub h : v.h < 2 ^ 32
+
 pub record Fits (p : Panel) : Type 0 where
   pub dims : DimsFit p.dims
+  pub visible : Of VisibleFits p.visible
   pub light : Of LightFits p.metadata.light
   pub gain : Of GainFits p.gain

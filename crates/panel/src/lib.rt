@@ -70,7 +70,7 @@ impl Ids {
 #[derive(Clone, Copy)]
 pub struct PropertyPosition(pub u8);
 
-// The tile grid: its columns and rows, the size of a tile, and the size of the whole picture.
+// The tile grid: its columns and rows, the size of a tile as it is decoded, and the size of the whole picture.
 #[derive(Clone, Copy)]
 pub struct GridDims {
     pub cols: u32,
@@ -79,6 +79,13 @@ pub struct GridDims {
     pub tile_h: u32,
     pub full_w: u32,
     pub full_h: u32,
+}
+
+// The part of each tile that is seen, from its first column and row on, where the encoder padded it.
+#[derive(Clone, Copy)]
+pub struct VisibleSize {
+    pub w: u32,
+    pub h: u32,
 }
 
 // Which items a file has: how many tiles each picture, and whether Exif, a gain map and a tone map.
@@ -109,6 +116,7 @@ pub struct Tiles<'a> {
 #[derive(Clone, Copy)]
 pub struct Panel<'a> {
     pub dims: GridDims,
+    pub visible: Option<VisibleSize>,
     pub bit_depth: BitDepth,
     pub alpha_bit_depth: BitDepth,
     pub color: Tiles<'a>,
@@ -118,12 +126,15 @@ pub struct Panel<'a> {
     pub gain_map: Option<EncodedGainMap<'a>>,
 }
 
-// Why a panel is refused, each by the number of its check, in the order in which they are made: 1, 8, 2 to 6. Of several the first counts.
+// Why a panel is refused, each by the number of its check, in the order in which they are made: 1, 22, 8, 2 to 6. Of several the first
+// counts.
 #[derive(Clone, Copy)]
 pub enum Refusal {
     // Rows or columns are 0 or above 256.
     GridSide = 1,
-    // A size of a tile or of the whole picture is 0, or the tiles don't cover the picture.
+    // A visible size is 0 or above the decoded one, or the decoded one above 2,147,483,647.
+    VisibleSize = 22,
+    // A size of what is seen of a tile, or of the whole picture, is 0, or what is seen of the tiles doesn't cover the picture.
     Cover = 8,
     // A list of lengths has not exactly rows × columns entries.
     TileCount = 2,

@@ -2,16 +2,25 @@
 // contracts are what counts.
 ghost use Rattle.std.specs.Prelude.{option_map};
 ghost use Rattle.panel.specs.Of.{gain_of, panel_of};
-ghost use Rattle.panel.specs.Widths.{Of, DimsFit, LightFits, GainFits, Fits};
+ghost use Rattle.panel.specs.Widths.{Of, DimsFit, VisibleFits, LightFits, GainFits, Fits};
 
 use crate::gain_map::EncodedGainMap;
 use crate::metadata::ContentLightLevel;
-use crate::{GridDims, Panel};
+use crate::{GridDims, Panel, VisibleSize};
 
 // The sizes of the grid.
 fn dims_fit(_dims: GridDims)
     ensures { DimsFit _dims }
 {}
+
+// The visible size.
+fn visible_fits(visible: Option<VisibleSize>)
+    ensures { Of VisibleFits visible }
+{
+    if let Some(size) = visible {
+        let _ = size;
+    }
+}
 
 // The light level.
 fn light_fits(light: Option<ContentLightLevel>)
@@ -40,6 +49,7 @@ impl<'a> Panel<'a> {
         ensures { Fits (panel_of self.now) }
     {
         dims_fit(self.dims);
+        visible_fits(self.visible);
         light_fits(self.metadata.content_light_level);
         gain_fits(self.gain_map);
     }

@@ -10,7 +10,7 @@ ghost use Rattle.heif.specs.Answer.{length_answer};
 ghost use Rattle.plan.specs.Plan.{Refused, Passes, MadeFrom};
 
 use panel::{FileForm, Panel, Refusal};
-use plan_checks::{bad_counts, bad_cover, bad_grid, bad_items, bad_sums};
+use plan_checks::{bad_counts, bad_cover, bad_grid, bad_items, bad_sums, bad_visible};
 use plan_items::items::Items;
 use plan_items::shape::shape_of;
 use plan_layout::{Layout, file_size, placed};
@@ -28,7 +28,7 @@ pub struct FilePlan {
     pub places: Places,
 }
 
-// The checks 1, 8 and 2 to 4 in this order: which items the file has.
+// The checks 1, 22, 8 and 2 to 4 in this order: which items the file has.
 #[tactic(auto, unfolding(panel::specs::Of::panel_of, heif::specs::Refusal::refusal, heif::specs::Answer::length_answer))]
 fn first_checks(form: FileForm, panel: &Panel) -> Result<Items, Refusal>
     ensures { MatchResult result (λ s. Passes (form_of form) (panel_of panel.now) s) (λ r. Refused (form_of form) (panel_of panel.now) r) }
@@ -38,7 +38,10 @@ fn first_checks(form: FileForm, panel: &Panel) -> Result<Items, Refusal>
     if bad_grid(panel.dims) {
         return Err(Refusal::GridSide);
     }
-    if bad_cover(panel.dims) {
+    if bad_visible(panel.dims, panel.visible) {
+        return Err(Refusal::VisibleSize);
+    }
+    if bad_cover(panel.dims, panel.visible) {
         return Err(Refusal::Cover);
     }
     if bad_counts(panel.dims, color.lengths.len(), alpha.lengths.len()) {
@@ -54,7 +57,7 @@ fn first_checks(form: FileForm, panel: &Panel) -> Result<Items, Refusal>
     Ok(items)
 }
 
-// The plan of a panel's file: the checks 1, 8 and 2 to 5 in this order, and all numbers of the file.
+// The plan of a panel's file: the checks 1, 22, 8 and 2 to 5 in this order, and all numbers of the file.
 #[tactic(auto, unfolding(panel::specs::Of::panel_of))]
 pub fn plan_of(form: FileForm, panel: &Panel) -> Result<FilePlan, Refusal>
     ensures planned { MatchResult result (λ m. MadeFrom (form_of form) (panel_of panel.now) m) (λ r. Refused (form_of form) (panel_of panel.now) r) }

@@ -1,14 +1,14 @@
-// The checks 1, 8 and 2 to 4 of a panel, each of which answers whether it refuses.
+// The checks 1, 22, 8 and 2 to 4 of a panel, each of which answers whether it refuses.
 #![tactic(auto)]
 
 ghost use Rattle.std.specs.Prelude.{◌≡◌, ◌||◌, ◌*◌};
 ghost use Rattle.panel.specs.Form.{form_of};
-ghost use Rattle.heif.specs.Refusal.{bad_side, bad_grid, bad_axis, bad_cover, bad_counts, bad_id, bad_items};
+ghost use Rattle.heif.specs.Refusal.{bad_side, bad_grid, bad_part, bad_visible, seen, bad_axis, bad_cover, bad_counts, bad_id, bad_items};
 ghost use Rattle.heif.specs.Items.{last_id};
 ghost use Rattle.plan_checks.specs.Sums.{bad_samples};
 
 use octets::total;
-use panel::{FileForm, GridDims, Samples};
+use panel::{FileForm, GridDims, Samples, VisibleSize};
 use plan_items::items::Items;
 
 // Whether rows or columns are too few or too many.
@@ -25,6 +25,33 @@ pub fn bad_grid(dims: GridDims) -> bool
     bad_side(dims.rows) || bad_side(dims.cols)
 }
 
+// Whether along one axis nothing is visible, or more than is decoded, or what is decoded does not fit in 32 bits with a sign.
+fn bad_part(visible: u32, decoded: u32) -> bool
+    ensures { result ≡ bad_part visible decoded }
+{
+    visible == 0 || visible > decoded || decoded > 2147483647
+}
+
+// Check 22: a visible size, where there is one, is no part of a tile, or the tile is too large for one.
+pub fn bad_visible(dims: GridDims, visible: Option<VisibleSize>) -> bool
+    ensures { result ≡ bad_visible dims visible }
+{
+    match visible {
+        Some(size) => bad_part(size.w, dims.tile_w) || bad_part(size.h, dims.tile_h),
+        None => false,
+    }
+}
+
+// What is seen of a tile: the visible size, or all that is decoded.
+fn seen(dims: GridDims, visible: Option<VisibleSize>) -> VisibleSize
+    ensures { result ≡ seen dims visible }
+{
+    visible.unwrap_or(VisibleSize {
+        w: dims.tile_w,
+        h: dims.tile_h,
+    })
+}
+
 // Whether along one axis a size is 0, or n tiles of a size are less than the full size.
 fn bad_axis(n: u32, tile: u32, full: u32) -> bool
     ensures { result ≡ bad_axis n tile full }
@@ -33,11 +60,12 @@ fn bad_axis(n: u32, tile: u32, full: u32) -> bool
     tile == 0 || full == 0 || (n as u64 * tile as u64) < full as u64
 }
 
-// Check 8: a size is 0, or the tiles don't cover the picture.
-pub fn bad_cover(dims: GridDims) -> bool
-    ensures { result ≡ bad_cover dims }
+// Check 8: a size is 0, or what is seen of the tiles doesn't cover the picture.
+pub fn bad_cover(dims: GridDims, visible: Option<VisibleSize>) -> bool
+    ensures { result ≡ bad_cover dims (seen dims visible) }
 {
-    bad_axis(dims.cols, dims.tile_w, dims.full_w) || bad_axis(dims.rows, dims.tile_h, dims.full_h)
+    let tile = seen(dims, visible);
+    bad_axis(dims.cols, tile.w, dims.full_w) || bad_axis(dims.rows, tile.h, dims.full_h)
 }
 
 // Check 2: a list of lengths has not exactly an entry for each tile.

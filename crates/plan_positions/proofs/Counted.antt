@@ -17,6 +17,8 @@ use Rattle.heif.specs.Irot.{irot_payload, irot_count}
 use Rattle.heif.proofs.Items.{length-ids_from}
 use Rattle.heif.proofs.Colr.{length-second_colr, length-alternates}
 use Rattle.heif.proofs.Clli.{length-clli}
+use Rattle.heif.specs.Clap.{clap_count}
+use Rattle.heif.proofs.Clap.{length-clap}
 use Rattle.plan_runs.proofs.Runs.{length-places}
 use Rattle.plan_runs.specs.Roles.{its_of}
 use Rattle.plan_positions.specs.Gain.{images, tones}
@@ -37,6 +39,10 @@ module _ (p : Panel) (y : Places) (h : Placed p y) where
   unfolding its_of
   clli-placed = sym (length-places y.options.clli) ∙ ap length (h.role Ipco.clli) ∙ length-ids_from _ _ ∙ length-clli p.metadata.light
 
+  pub clap-placed : y.options.clap.count ≡ clap_count p.visible
+  unfolding its_of
+  clap-placed = sym (length-places y.options.clap) ∙ ap length (h.role Ipco.clap) ∙ length-ids_from _ _ ∙ length-clap p.dims p.visible
+
 gain_all : (g : Option Gain) → let k = images g in let t = tones g in k + k + k + k + k + t + t + alternate_boxes g ≡ gain_property_count g
 gain_all None = refl
 gain_all (Some g) = toned g.tone
@@ -47,7 +53,7 @@ gain_all (Some g) = toned g.tone
     toned (Some t) = omega (arith, length-alternates g.alternate)
 
 pub all_placed : (p : Panel) (y : Places) → Placed p y
-    → y.count ≡ 8 + second_colr_count p.colour.cicp p.colour.icc + irot_count p.metadata.orientation + imir_count p.metadata.orientation + cond (is_some p.metadata.light) 1 0 + gain_property_count p.gain
+    → y.count ≡ 8 + second_colr_count p.colour.cicp p.colour.icc + irot_count p.metadata.orientation + imir_count p.metadata.orientation + cond (is_some p.metadata.light) 1 0 + clap_count p.visible + gain_property_count p.gain
 all_placed p y h =
     omega (
       arith,
@@ -57,5 +63,6 @@ all_placed p y h =
       length-optional "irot" (irot_payload (irot_steps p.metadata.orientation)),
       length-optional "imir" (imir_payload (imir_axis p.metadata.orientation)),
       length-clli p.metadata.light,
+      length-clap p.dims p.visible,
       gain_all p.gain,
     )

@@ -14,8 +14,10 @@ use Rattle.panel.proofs.Parts.{length-optional}
 use Rattle.heif.specs.Items.{ids_from}
 use Rattle.heif.specs.Ipco
 use Rattle.heif.specs.Colr.{alternates, second_colr, second_colr_count, alternates_count}
+use Rattle.panel.specs.declared.VisibleSize.{VisibleSize}
 use Rattle.panel.specs.declared.color.Cicp.{Cicp}
 use Rattle.heif.specs.Clli.{clli_payload, clli_count}
+use Rattle.heif.specs.Clap.{clap_payload, clap_count}
 use Rattle.heif.specs.Imir.{imir_payload, imir_count}
 use Rattle.heif.specs.Irot.{irot_payload, irot_count}
 use Rattle.heif.specs.Pixi.{pixi}
@@ -24,6 +26,7 @@ use Rattle.heif.specs.Ipma.{positions}
 use Rattle.heif.proofs.Items.{length-ids_from}
 use Rattle.heif.proofs.Colr.{length-second_colr, length-alternates}
 use Rattle.heif.proofs.Clli.{length-clli}
+use Rattle.heif.proofs.Clap.{length-clap}
 use Rattle.panel.proofs.Agreement.{with_gain}
 use Rattle.plan_runs.specs.GainMap.{image_at, tone_at, behind_image}
 use Rattle.plan_runs.specs.Pictures.{colour_at, alpha_at, options_at}
@@ -37,11 +40,19 @@ use Rattle.plan_runs.specs.Roles.{its_of}
 use Rattle.plan_positions.specs.Placed.{Placed}
 use Rattle.plan_runs.specs.declared.Places.{Places}
 
--- all places, with c second colr, r irot, m imir, l clli, g boxes of each kind of the gain image, t of the tone map, and a alternate colours
-abbrev pub laid : ℕ → ℕ → ℕ → ℕ → ℕ → ℕ → ℕ → Places
-laid c r m l g t a =
-    let n = 9 + c + r + m + l in
-    record { color = colour_at 1; alpha = alpha_at 6; options = options_at 9 c r m l; image = image_at n g; tone = tone_at (behind_image n g) t a; count = 8 + c + r + m + l + g + g + g + g + g + t + t + a }
+-- all places, with c second colr, r irot, m imir, l clli, v clap, g boxes of each kind of the gain image, t of the tone map, and a
+-- alternate colours
+abbrev pub laid : ℕ → ℕ → ℕ → ℕ → ℕ → ℕ → ℕ → ℕ → Places
+laid c r m l v g t a =
+    let n = 9 + c + r + m + l + v in
+    record {
+      color = colour_at 1;
+      alpha = alpha_at 6;
+      options = options_at 9 c r m l v;
+      image = image_at n g;
+      tone = tone_at (behind_image n g) t a;
+      count = 8 + c + r + m + l + v + g + g + g + g + g + t + t + a;
+    }
 
 -- how many boxes the definition has of each
 abbrev pub second_colrs : Panel → ℕ
@@ -55,6 +66,9 @@ imirs p = length (optional "imir" (imir_payload (imir_axis p.metadata.orientatio
 
 abbrev pub cllis : Panel → ℕ
 cllis p = length (optional "clli" (clli_payload p.metadata.light))
+
+abbrev pub claps : Panel → ℕ
+claps p = length (optional "clap" (clap_payload p.dims p.visible))
 
 -- alternate colours belong to a tone map
 abbrev pub alternate_boxes : Option Gain → ℕ
@@ -81,7 +95,7 @@ module _ (n : ℕ) (size depth : Box) where
 -- ---- all roles
 
 in_role : (p : Panel) (g : Option Gain) (r : Ipco.Role)
-    → its_of (laid (second_colrs p) (irots p) (imirs p) (cllis p) (images g) (tones g) (alternate_boxes g)) r ≡ positions 1 (Ipco.slots (with_gain p g)) r
+    → its_of (laid (second_colrs p) (irots p) (imirs p) (cllis p) (claps p) (images g) (tones g) (alternate_boxes g)) r ≡ positions 1 (Ipco.slots (with_gain p g)) r
 unfolding its_of
 in_role p g Ipco.hvcC_colour = refl
 in_role p g Ipco.ispe_tile = refl
@@ -95,6 +109,7 @@ in_role p g Ipco.colr_second = refl
 in_role p g Ipco.irot = refl
 in_role p g Ipco.imir = refl
 in_role p g Ipco.clli = refl
+in_role p g Ipco.clap = refl
 in_role p None Ipco.hvcC_gain = refl
 in_role p (Some g) Ipco.hvcC_gain = refl
 in_role p None Ipco.ispe_gain = refl
@@ -125,7 +140,7 @@ gain_counted size depth None = refl
 gain_counted size depth (Some g) = omega (arith, tone_counted size depth g.tone g.alternate)
 
 pub in_all : (p : Panel) → let k = images p.gain in let t = tones p.gain in
-    8 + second_colrs p + irots p + imirs p + cllis p + k + k + k + k + k + t + t + alternate_boxes p.gain ≡ length (Ipco.properties p)
+    8 + second_colrs p + irots p + imirs p + cllis p + claps p + k + k + k + k + k + t + t + alternate_boxes p.gain ≡ length (Ipco.properties p)
 in_all p = simp length-append (omega (arith, gain_counted (tone_ispe p.dims p.metadata.orientation) (pixi 3 (max (bits p.depth) 10)) p.gain))
 
 -- ---- the counts as the code has them
@@ -142,20 +157,21 @@ laid_of p =
     (irot_count p.metadata.orientation)
     (imir_count p.metadata.orientation)
     (clli_count p.metadata.light)
+    (clap_count p.visible)
     (images p.gain)
     (tones p.gain)
     (toned_alternates p.gain)
 
 -- with so many of each as the definition has
-counted : (p : Panel) → laid_of p ≡ laid (second_colrs p) (irots p) (imirs p) (cllis p) (images p.gain) (tones p.gain) (alternate_boxes p.gain)
-counted p = simp (length-second_colr, length-clli, length-optional, length-toned)
+counted : (p : Panel) → laid_of p ≡ laid (second_colrs p) (irots p) (imirs p) (cllis p) (claps p) (images p.gain) (tones p.gain) (alternate_boxes p.gain)
+counted p = simp (length-second_colr, length-clli, length-clap, length-optional, length-toned)
 
 placed_of : (p : Panel) → Placed p (laid_of p)
 placed_of p = rw (counted p) (record { count = in_all p; role = in_role p p.gain })
 
 -- parts that each begin where the one before it ends
 pub placed_in_turn : (p : Panel) {color : ColorPlaces} {alpha : AlphaPlaces} {options : OptionPlaces} {gain : GainPlaces} {a b c n : ℕ}
-    → color ≡ colour_at 1 → a ≡ 6 → alpha ≡ alpha_at a → b ≡ 9 → options ≡ optional_at b p.colour p.metadata → c ≡ behind_optional b p.colour p.metadata
+    → color ≡ colour_at 1 → a ≡ 6 → alpha ≡ alpha_at a → b ≡ 9 → options ≡ optional_at b p.colour p.metadata p.visible → c ≡ behind_optional b p.colour p.metadata p.visible
     → gain ≡ gain_at c p.gain → n ≡ behind_gain c p.gain
     → Placed p (record { color = color; alpha = alpha; options = options; image = gain.image; tone = gain.tone; count = n - 1 })
 placed_in_turn p {n = n} color a alpha b options c gain h =
@@ -180,8 +196,8 @@ few_toned : (g : Option Gain) → toned_alternates g ≤ 2
 few_toned None = omega arith
 few_toned (Some g) = omega (arith, at_most (is_some g.tone) (alternates_count g.alternate), few_alternates g.alternate)
 
-pub few_optional : (n : ℕ) (c : Colour) (m : Metadata) → behind_optional n c m ≤ n + 4
-few_optional n c m = omega (arith, few_second c.cicp c.icc, at_most (is_some (irot_payload (irot_steps m.orientation))) 1, at_most (is_some (imir_payload (imir_axis m.orientation))) 1, at_most (is_some m.light) 1)
+pub few_optional : (n : ℕ) (c : Colour) (m : Metadata) (v : Option VisibleSize) → behind_optional n c m v ≤ n + 5
+few_optional n c m v = omega (arith, few_second c.cicp c.icc, at_most (is_some (irot_payload (irot_steps m.orientation))) 1, at_most (is_some (imir_payload (imir_axis m.orientation))) 1, at_most (is_some m.light) 1, at_most (is_some v) 1)
 
 pub few_gain : (n : ℕ) (g : Option Gain) → behind_gain n g ≤ n + 9
 few_gain n g = omega (arith, at_most (is_some g) 1, at_most (is_some (tone_of g)) 1, few_toned g)
@@ -204,6 +220,7 @@ few_laid p Ipco.colr_second = few_ids _ (omega (arith, few_second p.colour.cicp 
 few_laid p Ipco.irot = few_ids _ (omega (arith, at_most (is_some (irot_payload (irot_steps p.metadata.orientation))) 1))
 few_laid p Ipco.imir = few_ids _ (omega (arith, at_most (is_some (imir_payload (imir_axis p.metadata.orientation))) 1))
 few_laid p Ipco.clli = few_ids _ (omega (arith, at_most (is_some p.metadata.light) 1))
+few_laid p Ipco.clap = few_ids _ (omega (arith, at_most (is_some p.visible) 1))
 few_laid p Ipco.hvcC_gain = few_ids _ (omega (arith, at_most (is_some p.gain) 1))
 few_laid p Ipco.ispe_gain = few_ids _ (omega (arith, at_most (is_some p.gain) 1))
 few_laid p Ipco.pixi_gain = few_ids _ (omega (arith, at_most (is_some p.gain) 1))

@@ -12,6 +12,12 @@ colour_at n = record { hvcc = run_at n 1; ispe_tile = run_at (n + 1) 1; ispe_ful
 abbrev pub alpha_at : ℕ → AlphaPlaces
 alpha_at n = record { hvcc = run_at n 1; pixi = run_at (n + 1) 1; auxc = run_at (n + 2) 1 }
 
-abbrev pub options_at : ℕ → ℕ → ℕ → ℕ → ℕ → OptionPlaces
-options_at n colr irot imir clli =
-    record { colr = run_at n colr; irot = run_at (n + colr) irot; imir = run_at (n + colr + irot) imir; clli = run_at (n + colr + irot + imir) clli }
+abbrev pub options_at : ℕ → ℕ → ℕ → ℕ → ℕ → ℕ → OptionPlaces
+options_at n colr irot imir clli clap =
+    record {
+      colr = run_at n colr;
+      irot = run_at (n + colr) irot;
+      imir = run_at (n + colr + irot) imir;
+      clli = run_at (n + colr + irot + imir) clli;
+      clap = run_at (n + colr + irot + imir + clli) clap;
+    }

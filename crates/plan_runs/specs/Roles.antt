@@ -17,6 +17,7 @@ its_of y Ipco.colr_second = places y.options.colr
 its_of y Ipco.irot = places y.options.irot
 its_of y Ipco.imir = places y.options.imir
 its_of y Ipco.clli = places y.options.clli
+its_of y Ipco.clap = places y.options.clap
 its_of y Ipco.hvcC_gain = places y.image.hvcc
 its_of y Ipco.ispe_gain = places y.image.ispe
 its_of y Ipco.pixi_gain = places y.image.pixi

@@ -35,14 +35,17 @@ fn plain(run: Run) -> Associated
     }
 }
 
-// A colour tile: hvcC, ispe and colr, all essential.
-pub fn color_tile_list(y: &Places) -> [Associated; 3]
+// A colour tile: hvcC, ispe, colr, and last what is there of clap, all essential.
+pub fn color_tile_list(y: &Places) -> [Associated; 4]
     ensures { listed result ≡ colour_tile_list (its_of y.now) }
 {
+    let color = &y.color;
+    let options = &y.options;
     [
-        essential(y.color.hvcc),
-        essential(y.color.ispe_tile),
-        essential(y.color.colr),
+        essential(color.hvcc),
+        essential(color.ispe_tile),
+        essential(color.colr),
+        essential(options.clap),
     ]
 }
 
@@ -64,11 +67,15 @@ pub fn color_grid_list(y: &Places) -> [Associated; 7]
     ]
 }
 
-// An alpha tile: hvcC and ispe, both essential.
-pub fn alpha_tile_list(y: &Places) -> [Associated; 2]
+// An alpha tile: hvcC, ispe, and last what is there of clap, all essential.
+pub fn alpha_tile_list(y: &Places) -> [Associated; 3]
     ensures { listed result ≡ alpha_tile_list (its_of y.now) }
 {
-    [essential(y.alpha.hvcc), essential(y.color.ispe_tile)]
+    [
+        essential(y.alpha.hvcc),
+        essential(y.color.ispe_tile),
+        essential(y.options.clap),
+    ]
 }
 
 // The alpha grid: ispe, pixi, auxC, and of what may be absent the transforms.

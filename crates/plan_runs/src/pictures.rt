@@ -30,6 +30,7 @@ pub struct OptionPlaces {
     pub irot: Run,
     pub imir: Run,
     pub clli: Run,
+    pub clap: Run,
 }
 
 // The positions of the colour picture's properties, one of each, and the record raised behind them.
@@ -72,20 +73,23 @@ pub fn option_places(
     irot: bool,
     imir: bool,
     clli: bool,
+    clap: bool,
 ) -> (OptionPlaces, Positions)
-    requires { positions.next.0 + 4 ≤ 127 }
-    ensures places { result.0 ≡ options_at positions.next.0 (cond colr 1 0) (cond irot 1 0) (cond imir 1 0) (cond clli 1 0) }
-    ensures next { result.1.next.0 ≡ positions.next.0 + cond colr 1 0 + cond irot 1 0 + cond imir 1 0 + cond clli 1 0 }
+    requires { positions.next.0 + 5 ≤ 127 }
+    ensures places { result.0 ≡ options_at positions.next.0 (cond colr 1 0) (cond irot 1 0) (cond imir 1 0) (cond clli 1 0) (cond clap 1 0) }
+    ensures next { result.1.next.0 ≡ positions.next.0 + cond colr 1 0 + cond irot 1 0 + cond imir 1 0 + cond clli 1 0 + cond clap 1 0 }
 {
     let (colr, positions) = positions.take_if(colr);
     let (irot, positions) = positions.take_if(irot);
     let (imir, positions) = positions.take_if(imir);
     let (clli, positions) = positions.take_if(clli);
+    let (clap, positions) = positions.take_if(clap);
     let places = OptionPlaces {
         colr,
         irot,
         imir,
         clli,
+        clap,
     };
     (places, positions)
 }

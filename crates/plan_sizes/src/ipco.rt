@@ -67,7 +67,7 @@ fn gain_bytes(gain: &Option<EncodedGainMap>) -> u128
 #[tactic(auto, unfolding(panel::specs::Of::panel_of))]
 pub(crate) fn ipco_size(panel: &Panel, places: &Places) -> u128
     ensures value { Placed (panel_of panel.now) places.now → result ≡ 8 + ipco_size (panel_of panel.now) }
-    ensures near { result ≤ ipco_size (panel_of panel.now) + 4000 }
+    ensures near { result ≤ ipco_size (panel_of panel.now) + 8000 }
     ensures upper_bound { result < 2 ^ 68 }
 {
     let heads = 8 + 8 * places.count as u128;
@@ -79,10 +79,11 @@ pub(crate) fn ipco_size(panel: &Panel, places: &Places) -> u128
         + 8;
     // hvcC, pixi and auxC
     let alpha = panel.alpha.hvcc.len() as u128 + 6 + 31;
-    // the second colr, irot, imir and clli
+    // the second colr, irot, imir, clli and clap
     let o = &places.options;
     let turns = o.irot.count() as u128 + o.imir.count() as u128;
     let clli = 4 * o.clli.count() as u128;
-    let options = second_colr_bytes(&panel.color_meta) as u128 + turns + clli;
+    let clap = 32 * o.clap.count() as u128;
+    let options = second_colr_bytes(&panel.color_meta) as u128 + turns + clli + clap;
     heads + color + alpha + options + gain_bytes(&panel.gain_map)
 }

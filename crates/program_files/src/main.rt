@@ -39,6 +39,7 @@ fn write_full(rt: &impl Print) -> io::Result<()> {
             full_w: 100,
             full_h: 40,
         },
+        visible: None,
         bit_depth: BitDepth::Ten,
         alpha_bit_depth: BitDepth::Ten,
         color: Tiles {

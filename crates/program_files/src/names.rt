@@ -24,6 +24,7 @@ fn write(
             full_w: 64,
             full_h: 64,
         },
+        visible: None,
         bit_depth,
         alpha_bit_depth,
         color: Tiles {

@@ -2,15 +2,15 @@
 use panel::Refusal;
 use sheet_fields::SheetRefusal;
 
-// What is wrong with a sheet, or with the panel that it says. No sheet is answered 2 to 5. It is no Display: the type is another crate's,
-// and what is said of the room and of docs/ is the program's.
+// What is wrong with a sheet, or with the panel that it says. No sheet is answered 22 or 2 to 5. It is no Display: the type is another
+// crate's, and what is said of the room and of docs/ is the program's.
 pub fn words_of(refusal: SheetRefusal) -> &'static str {
     match refusal {
         SheetRefusal::Panel(Refusal::GridSide) => {
             "there are no rows or no columns, or more than 256"
         }
         SheetRefusal::Panel(Refusal::Cover) => {
-            "a size of a tile or of the whole picture is 0, or the tiles do not cover the whole picture"
+            "a size of a tile or of the whole picture is 0, or what the tiles show does not cover the whole picture"
         }
         SheetRefusal::Panel(Refusal::OutputLength) => {
             "the room for the file is too short; it is 32,768 bytes here, and docs/SHEET.md says what to do"

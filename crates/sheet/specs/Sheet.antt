@@ -96,7 +96,7 @@ fields =
     colour m.cicp m.icc then λ c.
     metadata m then λ x.
     optional m.gain_map (gain m) then λ g.
-    end (record { dims = d; depth = k; alpha_depth = a; tiles = p.colour; alpha = p.alpha; colour = c; metadata = x; gain = g })
+    end (record { dims = d; visible = None; depth = k; alpha_depth = a; tiles = p.colour; alpha = p.alpha; colour = c; metadata = x; gain = g })
 
 -- 15 where the sheet is above 12,288 bytes, before all else
 unfoldable pub sheet : Reader Panel

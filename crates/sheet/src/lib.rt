@@ -47,6 +47,7 @@ pub fn read_sheet<'a>(sheet: &'a [u8], room: &'a mut [u32]) -> Result<Panel<'a>,
     at_end(&reader)?;
     Ok(Panel {
         dims,
+        visible: None,
         bit_depth,
         alpha_bit_depth,
         color,

@@ -127,8 +127,27 @@ module _ (p : Panel) (h : Sayable p) where
   unfolding sheet_bytes
   bytes-short = let s = simp length-append at h.short in (omega arith, omega arith)
 
-  off_fields : Ends fields (sheet_bytes p) p
-  unfolding fields sheet_bytes
+  -- p, of which no visible size is said
+  unseen : Panel
+  unseen =
+      record {
+        dims = p.dims;
+        visible = None;
+        depth = p.depth;
+        alpha_depth = p.alpha_depth;
+        tiles = p.tiles;
+        alpha = p.alpha;
+        colour = p.colour;
+        metadata = p.metadata;
+        gain = p.gain;
+      }
+
+  all_said : unseen ≡ p
+  unfolding unseen
+  all_said = rw h.visible refl
+
+  off_fields : Ends fields (sheet_bytes p) unseen
+  unfolding fields sheet_bytes unseen
   off_fields =
       and-ends _ (off_map p h.alternate)
       (and-ends _ off_dims
@@ -142,4 +161,4 @@ module _ (p : Panel) (h : Sayable p) where
   -- the sheet of a panel that a sheet can say gives the panel back
   pub back : sheet (sheet_bytes p) ≡ got p []
   unfolding sheet
-  back = ap (λ b. cond b (stop 15) (fields (sheet_bytes p))) (le-ltb _ _ h.short) ∙ off_fields.ends (let s = h.short in omega arith)
+  back = ap (λ b. cond b (stop 15) (fields (sheet_bytes p))) (le-ltb _ _ h.short) ∙ off_fields.ends (let s = h.short in omega arith) ∙ ap (λ q. got q []) all_said

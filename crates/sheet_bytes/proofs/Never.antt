@@ -1,8 +1,9 @@
--- No sheet is answered 2, 3, 4 or 5: of the panel that it says, only a side of the grid, a picture that its tiles don't cover, or the room
--- can be refused.
+-- No sheet is answered 22, 2, 3, 4 or 5: of the panel that it says, which has no visible size, only a side of the grid, a picture that its
+-- tiles don't cover, or the room can be refused.
 use mathlib.Core.Path.{◌≡◌, refl, sym, ap, ◌∙◌}
 use mathlib.Core.Bool.{Bool, true, false, ◌||◌, ◌&&◌, not, cond}
 use Rattle.std.specs.Prelude.{Option, None, Some, is_some}
+use mathlib.Core.Logic.{◌⊎◌}
 use mathlib.Core.List.{List, [], ◌∷◌, ◌++◌, map}
 use Prim.Native.Nat.{ℕ, ◌+◌, ◌*◌, ◌^◌, ◌≤◌, ◌<◌}
 use native.Mathlib.Omega.{arith}
@@ -16,6 +17,7 @@ use Rattle.panel.specs.Parts.{given}
 use Rattle.panel.specs.Widths.{Of}
 use Rattle.panel.specs.Outcome.{refused, outcome}
 use Rattle.panel.specs.declared.GridDims.{GridDims}
+use Rattle.panel.specs.declared.VisibleSize.{VisibleSize}
 use Rattle.panel.specs.declared.color.Cicp.{Cicp}
 use Rattle.panel.specs.declared.metadata.Orientation.{Orientation}
 use Rattle.heif.specs.Items.{shape, last_id, Even}
@@ -23,11 +25,12 @@ use Rattle.heif.specs.Idat.{wide}
 use Rattle.heif.specs.Hvcc.{rext}
 use Rattle.heif.specs.Ftyp.{gain_rext}
 use Rattle.heif.specs.File.{file}
-use Rattle.heif.specs.Refusal.{bad_grid, bad_cover, bad_counts, bad_sum, bad_items, too_long, refusal_in}
+use Rattle.heif.specs.Refusal.{bad_grid, bad_visible, seen, bad_cover, bad_counts, bad_sum, bad_items, too_long, refusal_in}
 use Rattle.heif.specs.Answer.{write_answer}
 use Rattle.heif.specs.Ipma.{turn_count}
 use Rattle.heif.proofs.Refusal.{ordinary-items}
-use Rattle.heif_length.specs.Shares.{Extra, share, wide_grid, alternate_cicp, light_level, grid_extras, turn_extras, exif_extras, colour_extras}
+use Rattle.heif_length.specs.Shares.{Extra, share, wide_grid, alternate_cicp, light_level, grid_extras, turn_extras, visible_extras}
+use Rattle.heif_length.specs.Shares.{exif_extras, colour_extras}
 use Rattle.heif_length.specs.Shares.{profile_extras, alternate_extras, tone_extras, gain_extras, extras}
 use Rattle.heif_length.proofs.Shares.{length_as_sum}
 use Rattle.sheet_fields.specs.Read.{Read, got, stop}
@@ -55,6 +58,10 @@ given_small b e = grind arith
 turns_small : (o : Orientation) → (shares (turn_extras o) ≤ 22) × (turn_count o ≤ 2)
 unfolding shares
 turns_small o = grind arith
+
+no_share : (n : ℕ) (v : Option VisibleSize) → v ≡ None → shares (visible_extras n v) ≡ 0
+unfolding shares
+no_share n v e = ap (λ (w : Option VisibleSize). shares (visible_extras n w)) e
 
 exif_small : (o : Option (List ℕ)) → Of Short o → shares (exif_extras o) ≤ 12343
 unfolding shares
@@ -86,13 +93,13 @@ gain_small (Some g) h = omega (arith, h.hvcc, h.sample, h.xmp, tone_small g.tone
 grid_small : (d : GridDims) → shares (grid_extras d) ≤ 8
 grid_small d = given_small (wide d) wide_grid
 
-first_of : (b1 b8 b2 b3 b4 b5 b6 : Bool) → b2 ≡ false → b3 ≡ false → b4 ≡ false → b5 ≡ false
-    → ◌≡◌ {A = ℕ} (elim b1 [ true ↦ 1 | false ↦ elim b8 [ true ↦ 8 | false ↦ elim b2 [ true ↦ 2 | false ↦ elim b3 [ true ↦ 3 | false ↦ elim b4 [ true ↦ 4 | false ↦ elim b5 [ true ↦ 5 | false ↦ elim b6 [ true ↦ 6 | false ↦ 0 ] ] ] ] ] ] ]) (cond b1 1 (cond b8 8 (cond b6 6 0)))
-first_of b1 b8 b2 b3 b4 b5 b6 e2 e3 e4 e5 = grind arith
+first_of : (b1 b22 b8 b2 b3 b4 b5 b6 : Bool) → b22 ≡ false → b2 ≡ false → b3 ≡ false → b4 ≡ false → b5 ≡ false
+    → ◌≡◌ {A = ℕ} (elim b1 [ true ↦ 1 | false ↦ elim b22 [ true ↦ 22 | false ↦ elim b8 [ true ↦ 8 | false ↦ elim b2 [ true ↦ 2 | false ↦ elim b3 [ true ↦ 3 | false ↦ elim b4 [ true ↦ 4 | false ↦ elim b5 [ true ↦ 5 | false ↦ elim b6 [ true ↦ 6 | false ↦ 0 ] ] ] ] ] ] ] ]) (cond b1 1 (cond b8 8 (cond b6 6 0)))
+first_of b1 b22 b8 b2 b3 b4 b5 b6 e22 e2 e3 e4 e5 = grind arith
 
 -- by the checks that can hold of a panel that a sheet says
 abbrev by_three : Panel → ℕ → ℕ
-by_three p room = cond (bad_grid p.dims.rows p.dims.cols) 1 (cond (bad_cover p.dims) 8 (cond (ltb room (length (file ordinary p))) 6 0))
+by_three p room = cond (bad_grid p.dims.rows p.dims.cols) 1 (cond (bad_cover p.dims (seen p.dims p.visible)) 8 (cond (ltb room (length (file ordinary p))) 6 0))
 
 module _ (p : Panel) (b : Bounded p) where
   even : Even p
@@ -111,16 +118,19 @@ module _ (p : Panel) (b : Bounded p) where
       let g = gain_extras p.gain in
       let x = exif_extras p.metadata.exif in
       let l = given (is_some p.metadata.light) (light_level ∷ []) in
+      let v = visible_extras (shape p).tiles p.visible in
       omega (
         arith,
-        shares-append (grid_extras p.dims) (turn_extras o ‖ l ‖ x ‖ c ‖ g),
-        shares-append (turn_extras o) (l ‖ x ‖ c ‖ g),
-        shares-append l (x ‖ c ‖ g),
+        shares-append (grid_extras p.dims) (turn_extras o ‖ l ‖ v ‖ x ‖ c ‖ g),
+        shares-append (turn_extras o) (l ‖ v ‖ x ‖ c ‖ g),
+        shares-append l (v ‖ x ‖ c ‖ g),
+        shares-append v (x ‖ c ‖ g),
         shares-append x (c ‖ g),
         shares-append c g,
         grid_small p.dims,
         (turns_small o).0,
         given_small (is_some p.metadata.light) light_level,
+        no_share (shape p).tiles p.visible b.visible,
         exif_small p.metadata.exif b.metadata.exif,
         colour_small p.colour.cicp p.colour.icc b.colour.icc,
         gain_small p.gain b.gain,
@@ -155,11 +165,12 @@ module _ (p : Panel) (b : Bounded p) where
   only room =
       let c = b.pictures.colour in
       let a = b.pictures.alpha in
+      let e22 : bad_visible p.dims p.visible ≡ false = ap (bad_visible p.dims) b.visible in
       let e2 : bad_counts (p.dims.rows * p.dims.cols) (length p.tiles.lengths) (length p.alpha.lengths) ≡ false = grind (arith, c.count, a.count) in
       let e3 : (bad_sum p.tiles || bad_sum p.alpha) ≡ false = grind (arith, c.sum, a.sum) in
       let e4 : bad_items ordinary (shape p) ≡ false = ordinary-items (shape p) ∙ le-ltb 65535 (last_id (shape p)) (omega (arith, id_small)) in
       let e5 : too_long (length (file ordinary p)) ≡ false = le-ltb _ _ file_small in
-      first_of (bad_grid p.dims.rows p.dims.cols) (bad_cover p.dims) _ _ _ _ (ltb room (length (file ordinary p))) e2 e3 e4 e5
+      first_of (bad_grid p.dims.rows p.dims.cols) _ (bad_cover p.dims (seen p.dims p.visible)) _ _ _ _ (ltb room (length (file ordinary p))) e22 e2 e3 e4 e5
 
 -- ---- the sheet
 
@@ -176,18 +187,30 @@ module _ (s rest : List ℕ) (p : Panel) (e : sheet s ≡ got p rest) where
   said-only : (room : ℕ) → refusal_in ordinary room p ≡ by_three p room
   said-only = only p held
 
-stops_late : (s : List ℕ) (k : ℕ) → sheet s ≡ stop k → 11 ≤ k
+  -- and has no visible size
+  pub unseen : p.visible ≡ None
+  unseen = held.visible
+
+stops_late : (s : List ℕ) (k : ℕ) → sheet s ≡ stop k → (11 ≤ k) × (k ≤ 15)
 unfolding sheet
 stops_late s k e = grind (arith, a-panel.stops)
 
-outside : (b1 b8 b6 : Bool) (size k : ℕ) → outcome (cond b1 1 (cond b8 8 (cond b6 6 0))) size ≡ refused k → 2 ≤ k → k ≤ 5 → ⊥
-outside b1 b8 b6 size k e l m = grind arith
+which : (b1 b8 b6 : Bool) (size k : ℕ) → outcome (cond b1 1 (cond b8 8 (cond b6 6 0))) size ≡ refused k → (k ≡ 1) ⊎ ((k ≡ 8) ⊎ (k ≡ 6))
+which b1 b8 b6 size k e = grind arith
+
+-- of what is refused, a number below 11 or above 15 is that of the panel
+of_panel : (s : List ℕ) (room k : ℕ) → sheet_answer s room ≡ refused k → (k < 11) ⊎ (15 < k) → (k ≡ 1) ⊎ ((k ≡ 8) ⊎ (k ≡ 6))
+unfolding sheet_answer write_answer
+of_panel s room k e l = go (sheet s) refl e
+  where
+    go : (r : Read Panel) → sheet s ≡ r → answer_of r room ≡ refused k → (k ≡ 1) ⊎ ((k ≡ 8) ⊎ (k ≡ 6))
+    go (got p rest) h e = which (bad_grid p.dims.rows p.dims.cols) (bad_cover p.dims (seen p.dims p.visible)) (ltb room (length (file ordinary p))) (length (file ordinary p)) k (ap (λ n. outcome n (length (file ordinary p))) (sym (said-only s rest p h room)) ∙ e)
+    go (stop j) h e = let v : j ≡ k = cc in absurd (omega (arith, stops_late s j h, l))
 
 -- no sheet is answered 2, 3, 4 or 5
 pub never : (s : List ℕ) (room k : ℕ) → sheet_answer s room ≡ refused k → 2 ≤ k → k ≤ 5 → ⊥
-unfolding sheet_answer write_answer
-never s room k e l m = go (sheet s) refl e
-  where
-    go : (r : Read Panel) → sheet s ≡ r → answer_of r room ≡ refused k → ⊥
-    go (got p rest) h e = outside (bad_grid p.dims.rows p.dims.cols) (bad_cover p.dims) (ltb room (length (file ordinary p))) (length (file ordinary p)) k (ap (λ n. outcome n (length (file ordinary p))) (sym (said-only s rest p h room)) ∙ e) l m
-    go (stop j) h e = let v : j ≡ k = cc in omega (arith, stops_late s j h)
+never s room k e l m = grind (arith, of_panel s room k e)
+
+-- nor 22
+pub never_visible : (s : List ℕ) (room : ℕ) → sheet_answer s room ≡ refused 22 → ⊥
+never_visible s room e = grind (arith, of_panel s room 22 e)

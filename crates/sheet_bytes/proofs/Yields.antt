@@ -1,5 +1,5 @@
 -- What holds of every value that is read off a sheet of at most 12,288 bytes: no part of it is longer, and the lengths fit the bytes;
--- and every refusal on the way has a number from 11 on.
+-- and every refusal on the way has a number from 11 to 15.
 use mathlib.Core.Path.{◌≡◌, refl, sym, ap}
 use mathlib.Core.Bool.{Bool, true, false}
 use Rattle.std.specs.Prelude.{Option, None, Some}
@@ -27,7 +27,7 @@ Short x = length x ≤ 12288
 
 pub record Yields {A : Type 0} (f : Reader A) (P : A → Type 0) : Type 0 where
   pub yields : (s rest : List ℕ) (a : A) → Short s → f s ≡ got a rest → P a × Short rest
-  pub stops : (s : List ℕ) (k : ℕ) → Short s → f s ≡ stop k → 11 ≤ k
+  pub stops : (s : List ℕ) (k : ℕ) → Short s → f s ≡ stop k → (11 ≤ k) × (k ≤ 15)
 
 abbrev Any : {A : Type 0} → A → Type 0
 Any a = Unit {0}
@@ -38,7 +38,7 @@ module _ {A B : Type 0} {P : A → Type 0} {Q : B → Type 0} {f : Reader A} whe
   seq : (g : A → Reader B) → Yields f P → ((a : A) → P a → Yields (g a) Q) → Yields (f then g) Q
   seq g h k = record { yields = λ s rest b l e. go s rest b l (f s) refl e; stops = λ s n l e. halt s n l (f s) refl e }
     where
-      halt : (s : List ℕ) (n : ℕ) → Short s → (r : Read A) → f s ≡ r → onward r g ≡ stop n → 11 ≤ n
+      halt : (s : List ℕ) (n : ℕ) → Short s → (r : Read A) → f s ≡ r → onward r g ≡ stop n → (11 ≤ n) × (n ≤ 15)
       halt s n l (got a t) e e' = let x = h.yields s t a l e in (k a x.0).stops t n x.1 e'
       halt s n l (stop j) e e' = let v : j ≡ n = cc in rw v at (h.stops s j l e)
 
@@ -178,6 +178,7 @@ a-gain m =
 -- ---- the panel
 
 pub record Bounded (p : Panel) : Type 0 where
+  pub visible : p.visible ≡ None
   pub pictures : Held (p.dims.rows * p.dims.cols) (record { colour = p.tiles; alpha = p.alpha })
   pub colour : ShortColour p.colour
   pub metadata : ShortMetadata p.metadata
@@ -188,4 +189,4 @@ unfolding fields
 a-panel =
     seq _ a-map (λ m h. seq _ some-dims (λ d h. seq _ (a_code 1 _) (λ k h. seq _ (a_code 1 _) (λ a h. seq _ (both_pictures (d.rows * d.cols)) (λ p hp.
     seq _ (a-colour m.cicp m.icc) (λ c hc. seq _ (some-metadata m) (λ x hx. seq _ (maybe m.gain_map (a-gain m)) (λ g hg.
-    ended _ (record { pictures = hp; colour = hc; metadata = hx; gain = hg })))))))))
+    ended _ (record { visible = refl; pictures = hp; colour = hc; metadata = hx; gain = hg })))))))))

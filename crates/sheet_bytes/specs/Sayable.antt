@@ -1,5 +1,5 @@
 -- The panels that a sheet can say.
-use Rattle.std.specs.Prelude.{◌≡◌, ℕ, ◌*◌, ◌^◌, ◌≤◌, ◌<◌, length}
+use Rattle.std.specs.Prelude.{◌≡◌, ℕ, ◌*◌, ◌^◌, ◌≤◌, ◌<◌, length, None}
 use Rattle.octets.specs.Numbers.{total}
 use Rattle.panel.specs.Panel.{Tiles, Gain, Panel}
 use Rattle.panel.specs.Agreement.{shown}
@@ -15,10 +15,11 @@ pub record Tiled (n : ℕ) (t : Tiles) : Type 0 where
 pub record Shown (g : Gain) : Type 0 where
   pub same : shown g.tone g.alternate ≡ g.alternate
 
--- sides of 16 bits, sizes and light levels within their widths, and a sheet of at most 12,288 bytes
+-- sides of 16 bits, no visible size, sizes and light levels within their widths, and a sheet of at most 12,288 bytes
 pub record Sayable (p : Panel) : Type 0 where
   pub cols : p.dims.cols < 2 ^ 16
   pub rows : p.dims.rows < 2 ^ 16
+  pub visible : p.visible ≡ None
   pub fits : Fits p
   pub colour : Tiled (p.dims.rows * p.dims.cols) p.tiles
   pub alpha : Tiled (p.dims.rows * p.dims.cols) p.alpha

@@ -25,7 +25,7 @@ pub enum SheetRefusal {
     LeftOver,
     // 15: it has more than 12,288 bytes.
     TooLong,
-    // 1, 8 or 2 to 6: its panel is refused.
+    // 1, 22, 8 or 2 to 6: its panel is refused.
     Panel(Refusal),
 }
 

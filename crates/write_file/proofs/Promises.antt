@@ -11,7 +11,7 @@ use Rattle.panel.specs.Panel.{Panel}
 use Rattle.panel.specs.Form.{Form}
 use Rattle.panel.specs.Outcome.{Outcome, made, refused, number, says, outcome}
 use Rattle.panel.specs.declared.Refusal.{Refusal}
-use Rattle.panel.specs.declared.Refusal.TheVariants.{GridSide, Cover, TileCount, SampleLengths, ItemIds, FileLength, OutputLength}
+use Rattle.panel.specs.declared.Refusal.TheVariants.{GridSide, VisibleSize, Cover, TileCount, SampleLengths, ItemIds, FileLength, OutputLength}
 use Rattle.std.specs.Prelude.{Ok, Err}
 use Rattle.heif.specs.File.{file}
 use Rattle.heif.specs.Refusal.{Check, check, first, checks, refusal, refusal_in}
@@ -57,7 +57,7 @@ module _ (w : Form) (p : Panel) where
   room_check room = check 6 (λ _. ltb room long) ∷ []
 
   numbered : Numbered (checks w long p)
-  numbered = (omega arith, (omega arith, (omega arith, (omega arith, (omega arith, (omega arith, tt))))))
+  numbered = (omega arith, (omega arith, (omega arith, (omega arith, (omega arith, (omega arith, (omega arith, tt)))))))
 
   one_more : (room : ℕ) → refusal w p ≡ 0 → refusal_in w room p ≡ first (room_check room)
   unfolding refusal refusal_in
@@ -88,6 +88,7 @@ module _ (w : Form) (p : Panel) where
 
   pub by-refusal : (old : List ℕ) (r : Refusal) → refused (number r) ≡ length_answer w p → Promised w p old (says (Err r)) old
   by-refusal old GridSide e = by_number old 0 e
+  by-refusal old VisibleSize e = by_number old 21 e
   by-refusal old Cover e = by_number old 7 e
   by-refusal old TileCount e = by_number old 1 e
   by-refusal old SampleLengths e = by_number old 2 e

@@ -13,7 +13,9 @@ ghost use Rattle.heif.specs.Ipma.{◌with◌, each, gain_associations, associati
 ghost use Rattle.plan_runs.specs.Roles.{its_of};
 ghost use Rattle.plan_runs.specs.Lists.{listed};
 
-use crate::association::{write_association, write_associations, write_given_association};
+use crate::association::{
+    entry_count, write_association, write_associations, write_given_association,
+};
 use octets::Output;
 use panel::FileForm;
 use panel::when::when;
@@ -37,7 +39,7 @@ fn write_picture_associations(
     ensures { let bytes = flat_map (association (form_of form)) (each ids.tiles.first.0 ids.tiles.count (listed tile.now) ‖ (ids.grid.0 with listed grid.now) ∷ []) in Wrote out.old (length bytes) bytes out.new }
 {
     write_associations(out, form, ids.tiles, tile);
-    write_association(out, form, ids.grid, grid);
+    write_association(out, form, ids.grid, entry_count(grid), grid);
 }
 
 // The entries of the gain map: the gain image's and the tone map's, where there are any.

@@ -7,6 +7,7 @@ ghost use Rattle.heif.specs.Ipco.{colour_slots, alpha_slots, option_slots, held,
 ghost use Rattle.heif.specs.Ipco.{colour_properties_size, alpha_properties_size, optional_properties_size, ipco_size};
 
 use crate::auxc::write_auxc;
+use crate::clap::write_clap;
 use crate::clli::write_clli;
 use crate::colr::{write_colr, write_secondary_colr};
 use crate::gain_map;
@@ -42,17 +43,18 @@ fn write_alpha_properties(out: &mut Output, panel: &Panel)
     write_auxc(out, b"urn:mpeg:hevc:2015:auxid:1");
 }
 
-// What is present of the second colr, irot, imir and clli.
+// What is present of the second colr, irot, imir, clli and clap.
 #[tactic(auto, unfolding(panel::specs::Of::panel_of))]
 fn write_optional_properties(out: &mut Output, panel: &Panel)
-    requires { let p = panel_of panel.now in BoxRoom out.old (optional_properties_size p.colour p.metadata.orientation p.metadata.light) }
-    ensures { let p = panel_of panel.now in Boxed out.old (optional_properties_size p.colour p.metadata.orientation p.metadata.light) (held (option_slots p.colour p.metadata.orientation p.metadata.light)) out.new }
+    requires { let p = panel_of panel.now in BoxRoom out.old (optional_properties_size p.visible p.colour p.metadata.orientation p.metadata.light) }
+    ensures { let p = panel_of panel.now in Boxed out.old (optional_properties_size p.visible p.colour p.metadata.orientation p.metadata.light) (held (option_slots p.dims p.visible p.colour p.metadata.orientation p.metadata.light)) out.new }
 {
     let orientation = panel.metadata.orientation;
     write_secondary_colr(out, &panel.color_meta);
     write_irot(out, orientation.irot_steps());
     write_imir(out, orientation.imir_axis());
     write_clli(out, panel.metadata.content_light_level);
+    write_clap(out, panel.dims, panel.visible);
 }
 
 // ipco.

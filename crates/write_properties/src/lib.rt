@@ -5,6 +5,7 @@
 #![tactic(auto)]
 
 pub mod auxc;
+pub mod clap;
 pub mod clli;
 pub mod colr;
 pub mod gain_map;

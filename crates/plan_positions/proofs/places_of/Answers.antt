@@ -9,7 +9,7 @@ pub place_gain-image-requires : goal.place_gain-image-requires
 place_gain-image-requires c =
     let p = c.args.panel.now in
     let next = c.optional_places-options.result.1.next.0 in
-    omega (arith, few_gain next (option_map gain_of p.gain_map), few_optional c.alpha_places-alpha.result.1.next.0 (colour_of p.color_meta) (metadata_of p.metadata))
+    omega (arith, few_gain next (option_map gain_of p.gain_map), few_optional c.alpha_places-alpha.result.1.next.0 (colour_of p.color_meta) (metadata_of p.metadata) p.visible)
 
 pub returns-clause-placed : goal.returns-clause-placed
 unfolding panel_of

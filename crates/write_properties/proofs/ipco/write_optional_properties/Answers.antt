@@ -1,4 +1,4 @@
--- Four properties that may be absent.
+-- Five properties that may be absent.
 use mathlib.Core.Path.{refl}
 use mathlib.Core.List.{append-nil}
 use Rattle.octets.proofs.Stores.{retold, ◌▸◌}
@@ -10,4 +10,4 @@ unfolding panel_of
 returns c =
     let turn = rw c.irot_steps.ensures at c.write_irot.ensures in
     let mirror = rw c.imir_axis.ensures at c.write_imir.ensures in
-    retold (c.write_secondary_colr.ensures ▸ turn ▸ mirror ▸ c.write_clli.ensures) (simp append-nil) refl
+    retold (c.write_secondary_colr.ensures ▸ turn ▸ mirror ▸ c.write_clli.ensures ▸ c.write_clap.ensures) (simp append-nil) refl
