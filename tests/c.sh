@@ -1,8 +1,8 @@
 #!/usr/bin/env bash
 # The header is tried as a caller in C or C++ uses it, with every warning an error: it stands alone, the example finds what it checks, the
 # calls over parts hand on what they are given, and the program in tests/c names every constant of the header, every field and every
-# parameter, writes every file of upstream's list and meets every refusal. Where there is no g++, the trial from C++ is left out and a line
-# says so; with the word `c++` in KAHOPIRU_REQUIRE that is a failure.
+# parameter, writes every file of upstream's list, and files with a visible size that are made by hand, and meets every refusal. Where there
+# is no g++, the trial from C++ is left out and a line says so; with the word `c++` in KAHOPIRU_REQUIRE that is a failure.
 set -euo pipefail
 cd "$(dirname "$0")/.."
 . tests/lib/left_out
@@ -39,7 +39,7 @@ target/c/example
 tests/c/by_name "$header" >target/c/by_name.h
 "${compile[@]}" -o target/c/handed tests/c/handed.c
 target/c/handed
-trial=(tests/c/{main,calls,reader,vectors,refusals,named}.c)
+trial=(tests/c/{main,calls,reader,vectors,refusals,named,visible}.c)
 "${compile[@]}" -o target/c/trial "${trial[@]}" "$lib/libkahopiru.a"
 target/c/trial tests/vectors/upstream.txt
 

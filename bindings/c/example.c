@@ -47,7 +47,7 @@ static int untouched(const uint8_t *bytes, size_t count, uint8_t mark) {
 
 /* What other languages, which declare these structs again, count on. */
 _Static_assert(sizeof(kahopiru_cicp) == 8 && sizeof(kahopiru_color) == 10 && sizeof(kahopiru_gain) == 32, "sizes");
-_Static_assert(sizeof(kahopiru_panel) == 76 && sizeof(kahopiru_answer) == 16, "sizes");
+_Static_assert(sizeof(kahopiru_panel) == 88 && sizeof(kahopiru_answer) == 16, "sizes");
 _Static_assert(sizeof(kahopiru_tile_place) == 24, "sizes");
 
 int main(void) {

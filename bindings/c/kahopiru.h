@@ -1,14 +1,20 @@
 /*
  * Kahopiru: a HEIF file writer whose every byte is proved.
  *
+ * Since 0.6.0 kahopiru_panel ends in has_visible, visible_w and visible_h, a visible size of the tiles; "What goes in"
+ * says what it is for. With has_visible = 0 there is none, and the file is what it was: an initialiser that does not
+ * name these fields, or ends before them, needs no change, and code that sets field after field must set has_visible,
+ * too. The struct is longer. What was compiled with an older header still links, but hands its arguments over at other
+ * places than the archive takes them from: compile it anew before it runs, and add the three fields wherever another
+ * language declares the struct.
+ *
  * Since 0.5.0 a panel whose tiles do not cover the picture, or one of whose sizes is 0, is refused with 8; before, any
  * sizes were written.
  *
  * Since 0.3.0 kahopiru_panel has alpha_bit_depth, right behind bit_depth, and code written for an older version must
  * set it: 0 says 8 bits, so a panel of 10 or 12 bits that leaves it out states an alpha of 8. With
- * panel.alpha_bit_depth = panel.bit_depth the file is what it was. The struct is as long as it was: what was
- * compiled with an older header still links, and is misread; compile it anew, and look through initialisers that do
- * not name their fields. `tools/show --check FILE` finds a depth that is not the record's.
+ * panel.alpha_bit_depth = panel.bit_depth the file is what it was. Look through initialisers that do not name their
+ * fields, too. `tools/show --check FILE` finds a depth that is not the record's.
  *
  * The file holds a colour picture in tiles, an alpha picture in tiles and, where there is one, a gain map with a
  * tone map. A panel is its numbers, kahopiru_panel, and its bytes, kahopiru_parts:
@@ -44,6 +50,21 @@
  * Its lengthSizeMinusOne must be 3, since the lengths in a sample have 4 bytes. All tiles of a picture share their
  * parameter sets: there is one record for all colour tiles and one for all alpha tiles.
  *
+ * tile_w and tile_h are the size of a tile as the decoder puts it out, that is, without what the conformance window of
+ * the parameter sets cuts off. Colour and alpha tiles have the same.
+ *
+ * Where the decoder puts out more than is to be shown, the panel has a visible size: has_visible is 1, and of each tile
+ * the first visible_w columns and the first visible_h rows are shown. It is these that lie side by side then, and that
+ * have to cover the picture. Tiles of an odd width in 4:2:0 or 4:2:2, or of an odd height in 4:2:0, need one. There the
+ * window cuts off columns, or rows, by two, and a decoder puts out even sizes alone; so the encoder pads such a tile by
+ * a column or a row, which the decoder puts out, too. For tiles of 63 by 65 pixels in 4:2:0 that is:
+ *
+ *     {.tile_w = 64, .tile_h = 66, .has_visible = 1, .visible_w = 63, .visible_h = 65, ..}
+ *
+ * Alpha tiles are padded likewise, also where they have no chroma. Where the decoder puts out just what is to be shown,
+ * no visible size is needed; so it is with even tiles, also of an odd picture, beyond which tiles may reach. libheif
+ * shows a file with a visible size as it is meant, ffmpeg does not: docs/DIFFERENCES.md, S12.
+ *
  * Colour and alpha each have a depth, bit_depth and alpha_bit_depth, which must be the one in the record. Today's
  * readers have trouble with two that differ; docs/DIFFERENCES.md (S11) says which.
  *
@@ -76,11 +97,14 @@
  *
  * Refusals
  * --------
- * A panel is refused with the first of these that holds, in the order 13, 1, 8, 2, 3, 4, 5, 6. Where a call refuses,
- * it answers length 0 and the output keeps every byte that it had.
+ * A panel is refused with the first of these that holds, in the order 13, 1, 22, 8, 2, 3, 4, 5, 6. Where a call
+ * refuses, it answers length 0 and the output keeps every byte that it had.
  *
  *   1   rows or cols is 0 or above 256
- *   8   tile_w, tile_h, full_w or full_h is 0, or cols x tile_w is below full_w, or rows x tile_h below full_h
+ *  22   has_visible is 1, and visible_w or visible_h is 0, or visible_w is above tile_w, or visible_h above tile_h, or
+ *       tile_w or tile_h is above 2,147,483,647
+ *   8   tile_w, tile_h, full_w or full_h is 0, or cols x tile_w is below full_w, or rows x tile_h below full_h; with
+ *       the visible size in the place of tile_w and tile_h where there is one
  *   2   color_lengths or alpha_lengths has not exactly rows x cols entries
  *   3   the colour lengths or the alpha lengths do not sum to the sample bytes lent
  *   4   the last item id would be above 65,535: 2 x rows x cols + 2, and 1 more for Exif, 2 for a gain map, 1 for a
@@ -98,6 +122,8 @@
  *  12   its map has a bit 9 to 15, or 6 without 5, or 7 or 8 without 6
  *  13   a code names nothing
  *  14   bytes are left over
+ *
+ * No sheet is refused with 22, since none can say a visible size.
  */
 #ifndef KAHOPIRU_H
 #define KAHOPIRU_H
@@ -108,7 +134,7 @@
 /* The version of header and archive, which is the Rust crate's. While the first number is 0, the second rises where a
    file of any panel, a struct, a call, a refusal or what a sheet says changes, and the third where nothing of that
    does. A change of a file's bytes is told first in docs/CHANGES.md. */
-#define KAHOPIRU_VERSION "0.5.0"
+#define KAHOPIRU_VERSION "0.6.0"
 
 #ifdef __cplusplus
 extern "C" {
@@ -129,7 +155,8 @@ enum {
     KAHOPIRU_SHEET_MAP = 12,
     KAHOPIRU_CODE = 13,
     KAHOPIRU_SHEET_BYTES_LEFT = 14,
-    KAHOPIRU_SHEET_LENGTH = 15
+    KAHOPIRU_SHEET_LENGTH = 15,
+    KAHOPIRU_VISIBLE_SIZE = 22
 };
 
 /* Depths, for bit_depth and alpha_bit_depth. */
@@ -194,7 +221,8 @@ typedef struct {
 /* The numbers of a panel. Padding between fields is ignored. */
 typedef struct {
     uint32_t cols, rows;     /* tiles across and down: 1 to 256 each */
-    uint32_t tile_w, tile_h; /* size of a tile, in pixels: 1 or more */
+    uint32_t tile_w, tile_h; /* size of a tile as the decoder puts it out, in pixels: 1 or more, and at most
+                                2,147,483,647 if has_visible is 1 */
     uint32_t full_w, full_h; /* size of the whole picture, in pixels: 1 or more, and no more than the tiles cover */
     uint8_t bit_depth;       /* of the colour picture: 0, 1, 2 for 8, 10, 12 bits */
     uint8_t alpha_bit_depth; /* of the alpha picture, by the same codes; it is not taken from bit_depth */
@@ -206,6 +234,9 @@ typedef struct {
     uint16_t max_pic_average_light_level; /* in candela per square metre */
     kahopiru_color color;
     kahopiru_gain gain;      /* not looked at if has_gain is 0 */
+    uint8_t has_visible;     /* 0 or 1: the visible size below is part of the panel */
+    uint32_t visible_w, visible_h; /* what is shown of a tile, from its first column and its first row on, in pixels:
+                                      1 to tile_w, and 1 to tile_h. Not looked at if has_visible is 0 */
 } kahopiru_panel;
 
 /* What a call answers. */
@@ -277,8 +308,9 @@ kahopiru_tile_place kahopiru_tile(
 /* Writes the file of the panel that a sheet says to the front of out and answers its length; the rest of out, or all of
    it if refused, keeps what it had. out overlaps no byte of the sheet.
 
-   A sheet has at most 12,288 bytes; docs/SHEET.md says what is in it. Since 0.3.0 that is an alpha depth, too: an
-   older sheet is refused, as a rule with 11, until its byte 22, the depth, is repeated behind it.
+   A sheet has at most 12,288 bytes; docs/SHEET.md says what is in it. It cannot say a visible size, so its panel has
+   none. Since 0.3.0 it has an alpha depth, too: an older sheet is refused, as a rule with 11, until its byte 22, the
+   depth, is repeated behind it.
 
    The file can be longer than the sheet, since each tile costs 89 bytes beside its samples; 136,838 bytes of room are
    enough for every sheet. The program behind ./panel has room for 32,768 bytes: 6 there says that the file would be
@@ -377,7 +409,8 @@ static inline const char *kahopiru_refusal_text(uint32_t refusal) {
     case KAHOPIRU_NO_TILE:
         return "the item id names no tile";
     case KAHOPIRU_COVER:
-        return "a size of a tile or of the whole picture is 0, or the tiles do not cover the whole picture";
+        return "a size of a tile or of the whole picture is 0, "
+               "or what the tiles show does not cover the whole picture";
     case KAHOPIRU_SHEET_ENDS:
         return "the sheet ends before its fields do";
     case KAHOPIRU_SHEET_MAP:
@@ -389,6 +422,8 @@ static inline const char *kahopiru_refusal_text(uint32_t refusal) {
         return "bytes are left over behind the sheet's last field";
     case KAHOPIRU_SHEET_LENGTH:
         return "the sheet has more than 12,288 bytes";
+    case KAHOPIRU_VISIBLE_SIZE:
+        return "a tile's visible size is 0 or above its decoded size, or its decoded size is above 2,147,483,647";
     default:
         return "no refusal of this version has this number";
     }

@@ -26,7 +26,8 @@ static const kahopiru_parts parts = {
     .gain_tmap = {bytes + 9, 12},
     .alternate_icc = {bytes + 10, 13},
 };
-static const kahopiru_panel panel = {.cols = 14, .rows = 15, .gain = {.alternate = {.cicp = {.full_range = 16}}}};
+static const kahopiru_panel panel = {
+    .cols = 14, .rows = 15, .gain = {.alternate = {.cicp = {.full_range = 16}}}, .visible_h = 27};
 
 static int compared = 0, failures = 0;
 
@@ -66,6 +67,7 @@ static void expect(int holds, const char *call, const char *what) {
         HANDED(call, alternate_icc, len);                                                                   \
         expect(call##_took.panel.cols == panel.cols && call##_took.panel.rows == panel.rows, #call, "panel"); \
         expect(call##_took.panel.gain.alternate.cicp.full_range == 16, #call, "panel");                     \
+        expect(call##_took.panel.visible_h == 27, #call, "panel");                                          \
         expect(answer.refusal == call##_answers.refusal, #call, "answer");                                  \
         expect(answer.length == call##_answers.length, #call, "answer");                                    \
     } while (0)

@@ -1,7 +1,7 @@
 /*
- * main LIST: writes every panel of the list of upstream's files and meets every refusal, as a caller in C does, with
- * the archive's own calls and with those over parts. Prints what is not so and ends with 1, or prints one line and ends
- * with 0.
+ * main LIST: writes every panel of the list of upstream's files, and panels with a visible size, and meets every
+ * refusal, as a caller in C does, with the archive's own calls and with those over parts. Prints what is not so and
+ * ends with 1, or prints one line and ends with 0.
  */
 #include "trial.h"
 
@@ -55,6 +55,7 @@ int main(int count, char **words) {
         panels += try_vectors(words[1]);
         refused += try_refusals();
         try_named();
+        try_visible();
     }
     if (failures)
         return 1;

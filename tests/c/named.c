@@ -3,8 +3,7 @@
 
 #include <string.h>
 
-/* The specification's panel P. */
-static given panel_p(void) {
+given panel_p(void) {
     static const uint8_t color_hvcc[] = {1, 1}, alpha_hvcc[] = {1, 4}, color[] = {0xAA}, alpha[] = {0xBB};
     static const uint32_t one[] = {1};
     return (given){

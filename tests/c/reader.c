@@ -1,7 +1,7 @@
 /*
  * A reader of good panel sheets, written from the specification, "The panel sheet". A sheet says depths and
  * orientations by numbers; here each is turned into the header's constant of the name that the specification, or the
- * enum of upstream's that it speaks of, has at that number.
+ * enum of upstream's that it speaks of, has at that number. No sheet says a visible size.
  */
 #include "trial.h"
 
@@ -146,6 +146,9 @@ given read_sheet(bytes sheet, uint32_t *lengths, bool junk) {
         .max_pic_average_light_level = average_light,
         .color = color,
         .gain = gain,
+        .has_visible = 0,
+        .visible_w = no_code,
+        .visible_h = no_code,
     };
     return g;
 }

@@ -15,7 +15,7 @@ static const struct {
     {0, KAHOPIRU_ACCEPTED},    {1, KAHOPIRU_GRID_SIDE},    {2, KAHOPIRU_TILE_COUNT},        {3, KAHOPIRU_SAMPLE_LENGTHS},
     {4, KAHOPIRU_ITEM_IDS},    {5, KAHOPIRU_FILE_LENGTH},  {6, KAHOPIRU_OUTPUT_LENGTH},     {7, KAHOPIRU_NO_TILE},
     {8, KAHOPIRU_COVER},       {11, KAHOPIRU_SHEET_ENDS},  {12, KAHOPIRU_SHEET_MAP},        {13, KAHOPIRU_CODE},
-    {14, KAHOPIRU_SHEET_BYTES_LEFT}, {15, KAHOPIRU_SHEET_LENGTH},
+    {14, KAHOPIRU_SHEET_BYTES_LEFT}, {15, KAHOPIRU_SHEET_LENGTH}, {22, KAHOPIRU_VISIBLE_SIZE},
 };
 
 static const char *text_of(uint32_t refusal) {
@@ -39,8 +39,8 @@ static void numbers_and_texts(void) {
 /* The calls, what the specification lets each refuse with (a bit for each number), and what it has refused with here. */
 enum call { LENGTH, WRITE, TILE, SHEET, CALLS };
 static const uint32_t possible[CALLS] = {
-    [LENGTH] = 1 << 1 | 1 << 8 | 1 << 2 | 1 << 3 | 1 << 4 | 1 << 5 | 1 << 13,
-    [WRITE] = 1 << 1 | 1 << 8 | 1 << 2 | 1 << 3 | 1 << 4 | 1 << 5 | 1 << 6 | 1 << 13,
+    [LENGTH] = 1 << 1 | 1 << 22 | 1 << 8 | 1 << 2 | 1 << 3 | 1 << 4 | 1 << 5 | 1 << 13,
+    [WRITE] = 1 << 1 | 1 << 22 | 1 << 8 | 1 << 2 | 1 << 3 | 1 << 4 | 1 << 5 | 1 << 6 | 1 << 13,
     [TILE] = 1 << 2 | 1 << 3 | 1 << 4 | 1 << 7,
     [SHEET] = 1 << 1 | 1 << 8 | 1 << 6 | 1 << 11 | 1 << 12 | 1 << 13 | 1 << 14 | 1 << 15,
 };
@@ -143,6 +143,80 @@ static void sizes(const given *p) {
     refused(&g, KAHOPIRU_GRID_SIDE, "a picture too wide and no columns: 1 before 8");
 }
 
+/* Sizes of two rows of three tiles, as decoded and visible, and of their picture, and what the panel is answered. */
+static const struct {
+    uint32_t tile_w, tile_h, visible_w, visible_h, full_w, full_h, refusal;
+    const char *why;
+} seen[] = {
+    {64, 32, 63, 31, 189, 62, KAHOPIRU_ACCEPTED, "visible tiles that end where the picture does"},
+    {64, 32, 63, 31, 190, 62, KAHOPIRU_COVER, "a picture one wider than its visible tiles"},
+    {64, 32, 63, 31, 189, 63, KAHOPIRU_COVER, "a picture one higher than its visible tiles"},
+    {64, 32, 63, 31, 0, 62, KAHOPIRU_COVER, "a picture of no width, and visible tiles"},
+    {64, 32, 63, 31, 189, 0, KAHOPIRU_COVER, "a picture of no height, and visible tiles"},
+    {64, 32, 64, 32, 192, 64, KAHOPIRU_ACCEPTED, "tiles all of which is visible"},
+    {64, 32, 0, 31, 189, 62, KAHOPIRU_VISIBLE_SIZE, "no visible width"},
+    {64, 32, 63, 0, 189, 62, KAHOPIRU_VISIBLE_SIZE, "no visible height"},
+    {64, 32, 65, 31, 189, 62, KAHOPIRU_VISIBLE_SIZE, "a visible width one above the decoded"},
+    {64, 32, 63, 33, 189, 62, KAHOPIRU_VISIBLE_SIZE, "a visible height one above the decoded"},
+    {64, 32, UINT32_MAX, 31, 189, 62, KAHOPIRU_VISIBLE_SIZE, "a visible width of 32 bits"},
+    {64, 32, 63, UINT32_MAX, 189, 62, KAHOPIRU_VISIBLE_SIZE, "a visible height of 32 bits"},
+    {0, 32, 63, 31, 189, 62, KAHOPIRU_VISIBLE_SIZE, "no decoded width"},
+    {64, 0, 63, 31, 189, 62, KAHOPIRU_VISIBLE_SIZE, "no decoded height"},
+    {0, 32, 0, 31, 189, 62, KAHOPIRU_VISIBLE_SIZE, "no decoded and no visible width"},
+    {64, 0, 63, 0, 189, 62, KAHOPIRU_VISIBLE_SIZE, "no decoded and no visible height"},
+    {0x7FFFFFFF, 32, 63, 31, 189, 62, KAHOPIRU_ACCEPTED, "the greatest decoded width"},
+    {64, 0x7FFFFFFF, 63, 31, 189, 62, KAHOPIRU_ACCEPTED, "the greatest decoded height"},
+    {0x80000000, 32, 63, 31, 189, 62, KAHOPIRU_VISIBLE_SIZE, "a decoded width one above the greatest"},
+    {64, 0x80000000, 63, 31, 189, 62, KAHOPIRU_VISIBLE_SIZE, "a decoded height one above the greatest"},
+    {UINT32_MAX, 32, UINT32_MAX, 31, 189, 62, KAHOPIRU_VISIBLE_SIZE, "a decoded width of 32 bits, all of it visible"},
+    {64, UINT32_MAX, 63, UINT32_MAX, 189, 62, KAHOPIRU_VISIBLE_SIZE, "a decoded height of 32 bits, all of it visible"},
+    {0x7FFFFFFF, 32, 0x7FFFFFFF, 31, UINT32_MAX, 62, KAHOPIRU_ACCEPTED, "visible tiles beyond 32 bits, across"},
+    {64, 0x7FFFFFFF, 63, 0x7FFFFFFF, 189, 0xFFFFFFFE, KAHOPIRU_ACCEPTED, "visible tiles up to 32 bits, down"},
+    {64, 0x7FFFFFFF, 63, 0x7FFFFFFF, 189, UINT32_MAX, KAHOPIRU_COVER, "visible tiles one short of 32 bits, down"},
+    {64, 32, 65, 31, 196, 62, KAHOPIRU_VISIBLE_SIZE, "a visible width and a picture too wide: 22 before 8"},
+    {64, 32, 63, 0, 189, 0, KAHOPIRU_VISIBLE_SIZE, "no visible height and none of the picture: 22 before 8"},
+};
+
+static void visible_sizes(const given *p) {
+    static const uint32_t zeros[6];
+    given g = *p;
+    g.color_samples = g.alpha_samples = nothing;
+    g.color_lengths = g.alpha_lengths = (numbers){zeros, 6};
+    g.panel.cols = 3;
+    g.panel.rows = 2;
+    g.panel.has_visible = 1;
+    for (size_t i = 0; i < sizeof seen / sizeof *seen; i++) {
+        g.panel.tile_w = seen[i].tile_w;
+        g.panel.tile_h = seen[i].tile_h;
+        g.panel.visible_w = seen[i].visible_w;
+        g.panel.visible_h = seen[i].visible_h;
+        g.panel.full_w = seen[i].full_w;
+        g.panel.full_h = seen[i].full_h;
+        if (seen[i].refusal == KAHOPIRU_ACCEPTED)
+            expect(by->length(&g).refusal == KAHOPIRU_ACCEPTED, seen[i].why, "it is accepted");
+        else
+            refused(&g, seen[i].refusal, seen[i].why);
+    }
+
+    /* The neighbours of 22 on its other side, and the code before all. */
+    g = *p;
+    g.panel.has_visible = 1;
+    refused(&g, KAHOPIRU_VISIBLE_SIZE, "a visible size of zeros");
+    g.panel.rows = 0;
+    refused(&g, KAHOPIRU_GRID_SIDE, "a visible size of zeros and no rows: 1 before 22");
+    g.panel.has_visible = 2;
+    refused(&g, KAHOPIRU_CODE, "has_visible is 2, and no rows: 13 before 1");
+
+    /* Beside has_visible = 0 the numbers are not looked at. */
+    g = *p;
+    const kahopiru_answer without = by->length(&g);
+    g.panel.visible_w = 65;
+    expect(same_answer(by->length(&g), without), "a visible width beside none", "it is not looked at");
+    g.panel.visible_w = 0;
+    g.panel.visible_h = UINT32_MAX;
+    expect(same_answer(by->length(&g), without), "a visible height beside none", "it is not looked at");
+}
+
 static void lists(const given *p) {
     static const uint32_t one_more[] = {1, 0};
     given g = *p;
@@ -232,6 +306,8 @@ static void codes(const given *p) {
     NAMES_NOTHING(has_light, 2);
     NAMES_NOTHING(has_exif, 2);
     NAMES_NOTHING(has_gain, 2);
+    NAMES_NOTHING(has_visible, 2);
+    NAMES_NOTHING(has_visible, 255);
     NAMES_NOTHING(color.has_cicp, 2);
     NAMES_NOTHING(color.has_icc, 2);
     CICP_NAMES_NOTHING(color.cicp);
@@ -307,6 +383,7 @@ int try_refusals(void) {
     given p = read_sheet(from_hex(p_digits, p_sheet), lengths, false);
     sides(&p);
     sizes(&p);
+    visible_sizes(&p);
     lists(&p);
     ids(&p);
     too_long(&p);

@@ -55,6 +55,10 @@ int try_vectors(const char *path);
 int try_refusals(void);
 /* named.c: the code points that have a name are written as they should be. */
 void try_named(void);
+/* named.c: the specification's panel P. */
+given panel_p(void);
+/* visible.c: a visible size is written as it should be. */
+void try_visible(void);
 
 /* main.c: says what is not so, with the name of the panel at which it is not. */
 void expect(bool holds, const char *name, const char *what);

@@ -37,6 +37,7 @@ fn gain(g: EncodedGainMap<'_>) -> sys::Gain {
 /// The numbers of a panel.
 fn numbers(p: &Panel<'_>) -> sys::Panel {
     let light = p.metadata.content_light_level;
+    let visible = p.visible.unwrap_or_default();
     sys::Panel {
         cols: p.dims.cols,
         rows: p.dims.rows,
@@ -54,6 +55,9 @@ fn numbers(p: &Panel<'_>) -> sys::Panel {
         max_pic_average_light_level: light.unwrap_or_default().max_pic_average_light_level,
         color: color(p.color_meta),
         gain: p.gain_map.map(gain).unwrap_or_default(),
+        has_visible: p.visible.is_some().into(),
+        visible_w: visible.w,
+        visible_h: visible.h,
     }
 }
 

@@ -64,6 +64,9 @@
 //!   4, range extensions, makes the brand `heix` where it is `heic` else (colour), or adds `heix` to the compatible
 //!   brands (gain image). A record of fewer than two bytes counts as another profile. The alpha record's second byte is
 //!   not looked at.
+//! - The size of a tile is that which the decoder puts out. Where that is more than is to be shown, as of tiles of an
+//!   odd size in 4:2:0, which an encoder pads to even sizes, a visible size is stated beside it. See
+//!   [`Panel::visible`].
 //! - Colour and alpha each have a depth, which must be the one in the record. Unless it is given, alpha has the
 //!   colour's. See [`Panel::alpha_bit_depth`].
 //! - Where a picture states no colour, neither by code points nor by a profile, unspecified is written, with full
@@ -71,7 +74,7 @@
 //! - Mirrored orientations show mirrored the other way in today's readers. See [`Orientation`].
 //! - An alternate colour that is empty, or without a tone map, is the same as none. See
 //!   [`EncodedGainMap::alternate_color`].
-//! - A sheet has at most 12,288 bytes. See [`write_sheet`].
+//! - A sheet has at most 12,288 bytes, and cannot say a visible size. See [`write_sheet`].
 //!
 //! Numbers that come from elsewhere become values by `TryFrom`: code points ([`Primaries`], [`TransferFunction`],
 //! [`MatrixCoefficients`]), bits ([`BitDepth`]) and Exif's orientation ([`Orientation`]). A number that stands for
@@ -101,7 +104,7 @@ mod write_error;
 
 pub use color::{Cicp, ColorMetadata, MatrixCoefficients, Primaries, TransferFunction};
 pub use metadata::{BitDepth, ContentLightLevel, Metadata, Orientation};
-pub use panel::{EncodedGainMap, GridDims, Panel};
+pub use panel::{EncodedGainMap, GridDims, Panel, VisibleSize};
 pub use refusal::Refusal;
 pub use samples::{SampleList, SampleTooLong, Samples};
 pub use unknown_code::UnknownCode;
@@ -126,8 +129,9 @@ pub const VERSION: &str = env!("CARGO_PKG_VERSION");
 ///
 /// # Errors
 ///
-/// The first of these refusals that holds, in this order: [`Refusal::GridSide`], [`Refusal::Cover`],
-/// [`Refusal::TileCount`], [`Refusal::SampleLengths`], [`Refusal::ItemIds`], [`Refusal::FileLength`].
+/// The first of these refusals that holds, in this order: [`Refusal::GridSide`], [`Refusal::VisibleSize`],
+/// [`Refusal::Cover`], [`Refusal::TileCount`], [`Refusal::SampleLengths`], [`Refusal::ItemIds`],
+/// [`Refusal::FileLength`].
 ///
 /// # Panics
 ///
@@ -250,8 +254,8 @@ pub fn tile<'a>(id: u16, color: Samples<'a>, alpha: Samples<'a>) -> Result<&'a [
 
 /// Writes the file of the panel that a sheet says to the front of `out` and answers its length.
 ///
-/// A sheet is a panel as one run of bytes, at most 12,288 of them. The bytes of `out` behind the file keep what they
-/// had; if the call refuses, all of `out` does.
+/// A sheet is a panel as one run of bytes, at most 12,288 of them; it cannot say a [visible size](Panel::visible). The
+/// bytes of `out` behind the file keep what they had; if the call refuses, all of `out` does.
 ///
 /// Since 0.3.0 a sheet says an alpha depth, too: an older one is refused, as a rule with [`Refusal::SheetEnds`], until
 /// its byte 22, the depth, is repeated behind it.

@@ -4,9 +4,13 @@ use crate::{BitDepth, Cicp, ColorMetadata, Metadata, Samples};
 
 /// The tile grid: its columns and rows, the size of a tile, and the size of the whole picture, in pixels.
 ///
+/// The size of a tile is that which the decoder puts out: without what the conformance window of the parameter sets
+/// cuts off. It is the same for colour and alpha.
+///
 /// No size is 0, and the tiles cover the whole picture: `cols` × `tile_w` is at least `full_w`, and `rows` × `tile_h`
-/// at least `full_h`. Other sizes are refused with [`Refusal::Cover`](crate::Refusal::Cover). Today's readers refuse a
-/// width or height above 65,535; the repository's docs/DIFFERENCES.md says more, S10.
+/// at least `full_h`; where a panel has a [visible size](Panel::visible), that stands in the place of a tile's. Other
+/// sizes are refused with [`Refusal::Cover`](crate::Refusal::Cover). Today's readers refuse a width or height above
+/// 65,535; the repository's docs/DIFFERENCES.md says more, S10.
 #[derive(Clone, Copy, Debug, PartialEq, Eq, Hash, Default)]
 pub struct GridDims {
     /// Tiles across, 1 to 256.
@@ -21,6 +25,18 @@ pub struct GridDims {
     pub full_w: u32,
     /// Height of the whole picture, 1 or more.
     pub full_h: u32,
+}
+
+/// What is shown of each tile, from its first column and its first row on, in pixels. See [`Panel::visible`].
+///
+/// Neither side is 0, or above that of the tile, which is at most 2,147,483,647. Other sizes are refused with
+/// [`Refusal::VisibleSize`](crate::Refusal::VisibleSize).
+#[derive(Clone, Copy, Debug, PartialEq, Eq, Hash, Default)]
+pub struct VisibleSize {
+    /// Columns that are shown, 1 to [`GridDims::tile_w`].
+    pub w: u32,
+    /// Rows that are shown, 1 to [`GridDims::tile_h`].
+    pub h: u32,
 }
 
 /// A gain map, already coded: one hidden picture, an XMP packet and, if there is one, a tone map.
@@ -54,6 +70,38 @@ pub struct EncodedGainMap<'a> {
 pub struct Panel<'a> {
     /// The tile grid, the same for colour and alpha.
     pub dims: GridDims,
+    /// The visible size of a tile, the same for colour and alpha, where the decoder puts out more than is to be shown.
+    /// With `None`, the default, all of each tile is shown. It is the visible parts that lie side by side, and that
+    /// have to cover the whole picture.
+    ///
+    /// Tiles of an odd width in 4:2:0 or 4:2:2, or of an odd height in 4:2:0, need one. There the conformance window of
+    /// the parameter sets cuts off columns, or rows, by two, and a decoder puts out even sizes alone; so the encoder
+    /// pads such a tile by a column or a row that the decoder puts out, too. `tile_w` and `tile_h` are the padded size,
+    /// and this is the odd one. Alpha tiles are padded likewise, also where they have no chroma. Where the decoder puts
+    /// out just what is to be shown, no visible size is needed; so it is with even tiles, also of an odd picture,
+    /// beyond which tiles may reach.
+    ///
+    /// libheif shows a file with a visible size as it is meant, ffmpeg does not; the repository's docs/DIFFERENCES.md
+    /// says more, S12.
+    ///
+    /// ```
+    /// use kahopiru::{to_vec, GridDims, Panel, Samples, VisibleSize};
+    ///
+    /// // Two tiles of 63 × 65 pixels side by side, each padded to 64 × 66.
+    /// let tiles = Samples { lengths: &[1, 1], bytes: &[0, 0] };
+    /// let odd = Panel {
+    ///     dims: GridDims { cols: 2, rows: 1, tile_w: 64, tile_h: 66, full_w: 126, full_h: 65 },
+    ///     visible: Some(VisibleSize { w: 63, h: 65 }),
+    ///     color_samples: tiles,
+    ///     alpha_samples: tiles,
+    ///     ..Panel::default()
+    /// };
+    /// // 40 bytes say what is shown, and each of the two colour tiles and two alpha tiles names them in one byte more.
+    /// let whole = Panel { visible: None, ..odd };
+    /// assert_eq!(to_vec(&odd)?.len(), to_vec(&whole)?.len() + 40 + 4);
+    /// # Ok::<(), kahopiru::Refusal>(())
+    /// ```
+    pub visible: Option<VisibleSize>,
     /// Bits of a sample of the colour picture.
     pub bit_depth: BitDepth,
     /// Bits of a sample of the alpha picture. `None`, the default, is the colour picture's depth: a panel has the same

@@ -8,7 +8,7 @@ macro_rules! refusals {
     ($($number:literal $name:ident $text:literal)*) => {
         /// Why a call refuses: the first check that holds is answered.
         ///
-        /// A panel is checked in the order 1, 8, 2, 3, 4, 5, 6; only a call that is lent room answers 6. A tile
+        /// A panel is checked in the order 1, 22, 8, 2, 3, 4, 5, 6; only a call that is lent room answers 6. A tile
         /// lookup answers 2, 3, 4 or 7, in this order, and a sheet is read first, and refused with 15 or with the first
         /// of 11 to 14 that the reading meets. In C a panel can be refused with 13; the types of this crate have no
         /// code that stands for nothing.
@@ -20,7 +20,7 @@ macro_rules! refusals {
 
         impl Refusal {
             /// Every refusal, by rising number.
-            pub const ALL: [Refusal; 13] = [$(Refusal::$name),*];
+            pub const ALL: [Refusal; 14] = [$(Refusal::$name),*];
 
             /// The refusal's number, as the archive, the C header and the sheet program have it.
             #[must_use]
@@ -50,13 +50,15 @@ refusals! {
     5 FileLength "the file would be longer than 4,294,967,295 bytes"
     6 OutputLength "the room for the file is too short"
     7 NoTile "the item id names no tile"
-    8 Cover "a size of a tile or of the whole picture is 0, or the tiles do not cover the whole picture"
+    8 Cover "a size of a tile or of the whole picture is 0, or what the tiles show does not cover the whole picture"
     11 SheetEnds "the sheet ends before its fields do"
     12 SheetMap
         "the sheet's map asks for something that there is not, or for a part without the part that it belongs to"
     13 SheetCode "a depth, an orientation, a colour code or a yes or no is none that exists"
     14 SheetBytesLeft "bytes are left over behind the sheet's last field"
     15 SheetLength "the sheet has more than 12,288 bytes"
+    22 VisibleSize
+        "a tile's visible size is 0 or above its decoded size, or its decoded size is above 2,147,483,647"
 }
 
 impl std::error::Error for Refusal {}
@@ -76,7 +78,7 @@ impl TryFrom<u32> for Refusal {
     type Error = UnknownCode;
 
     fn try_from(number: u32) -> Result<Self, UnknownCode> {
-        Numbers { name: "a refusal's number", all: "1 to 8 or 11 to 15" }.find(&Self::ALL, Self::number, number)
+        Numbers { name: "a refusal's number", all: "1 to 8, 11 to 15 or 22" }.find(&Self::ALL, Self::number, number)
     }
 }
 

@@ -50,6 +50,9 @@ pub struct Panel {
     pub max_pic_average_light_level: u16,
     pub color: Color,
     pub gain: Gain,
+    pub has_visible: u8,
+    pub visible_w: u32,
+    pub visible_h: u32,
 }
 
 #[repr(C)]
@@ -70,7 +73,7 @@ pub struct TilePlace {
 
 // The sizes that bindings/c/example.c asserts of the header's structs.
 const _: () = assert!(size_of::<Cicp>() == 8 && size_of::<Color>() == 10 && size_of::<Gain>() == 32);
-const _: () = assert!(size_of::<Panel>() == 76 && size_of::<Answer>() == 16 && size_of::<TilePlace>() == 24);
+const _: () = assert!(size_of::<Panel>() == 88 && size_of::<Answer>() == 16 && size_of::<TilePlace>() == 24);
 
 /// The byte parts, each lent whether or not it belongs to the panel.
 #[derive(Clone, Copy, Debug, PartialEq, Eq, Default)]

@@ -5,7 +5,7 @@ mod common;
 use common::{p, with_gain};
 use kahopiru::{
     file_length, to_vec, write, BitDepth, Cicp, ColorMetadata, ContentLightLevel, EncodedGainMap, Metadata,
-    Orientation, Panel,
+    Orientation, Panel, VisibleSize,
 };
 
 /// The size and type of the box that begins at an offset.
@@ -82,6 +82,61 @@ fn options_add_what_the_specification_says() {
     let turned = with(Metadata { orientation: Orientation::Transpose, ..Metadata::default() });
     assert!(holds(&turned, b"irot\x03") && holds(&turned, b"imir\x00"));
     assert!(holds(&turned, &[0, 2, 5, 0x03, 0x84, 0x05, 0x89, 0x8A]));
+}
+
+#[test]
+fn a_visible_size_is_a_property_that_tiles_name_last() {
+    let mut panel = p();
+    (panel.dims.full_w, panel.dims.full_h) = (63, 61);
+    let whole = to_vec(&panel).unwrap();
+    panel.visible = Some(VisibleSize { w: 63, h: 61 });
+    let file = to_vec(&panel).unwrap();
+    assert_eq!(file.len(), 598);
+    for (name, at, size) in [
+        (b"ftyp", 0, 28),
+        (b"meta", 28, 560),
+        (b"iprp", 319, 245),
+        (b"ipco", 327, 196),
+        (b"clap", 483, 40),
+        (b"ipma", 523, 41),
+        (b"idat", 564, 24),
+        (b"mdat", 588, 10),
+    ] {
+        assert_eq!(box_at(&file, at), (size, &name[..]), "at {at}");
+    }
+    // The tile's ispe keeps the decoded size; clap has the visible one, and behind it what it lacks of the decoded.
+    assert_eq!(&file[357..365], [0, 0, 0, 64, 0, 0, 0, 64]);
+    assert_eq!(&file[491..507], [0, 0, 0, 63, 0, 0, 0, 1, 0, 0, 0, 61, 0, 0, 0, 1]);
+    assert_eq!(&file[507..523], [255, 255, 255, 255, 0, 0, 0, 2, 255, 255, 255, 253, 0, 0, 0, 2]);
+    // The colour tile and the alpha tile name it, position 9, as essential; the grids do not.
+    assert_eq!(&file[539..552], [0, 1, 4, 0x81, 0x82, 0x84, 0x89, 0, 2, 3, 3, 0x84, 5]);
+    assert_eq!(&file[552..564], [0, 3, 3, 0x86, 0x82, 0x89, 0, 4, 3, 3, 7, 8]);
+    // The samples, which lay at 554 and 555, are 42 bytes further on, and nothing else differs.
+    assert_eq!(&file[111..119], [0, 0, 2, 0x54, 0, 0, 0, 1]);
+    assert_eq!(&file[143..151], [0, 0, 2, 0x55, 0, 0, 0, 1]);
+    assert_eq!(file[564..], whole[522..]);
+}
+
+#[test]
+fn a_visible_size_stands_between_light_level_and_gain_map() {
+    let level = ContentLightLevel { max_content_light_level: 1000, max_pic_average_light_level: 400 };
+    let metadata = Metadata { content_light_level: Some(level), ..Metadata::default() };
+    let visible = Some(VisibleSize { w: 64, h: 64 });
+    let file = to_vec(&Panel { metadata, visible, ..with_gain(Some(&[])) }).unwrap();
+    assert_eq!(file.len(), 556 + 13 + 42 + 243 + 3 + 134);
+    let light = b"\0\0\0\x0Cclli\x03\xE8\x01\x90";
+    let clap = b"\0\0\0\x28clap\0\0\0\x40\0\0\0\x01\0\0\0\x40\0\0\0\x01\0\0\0\0\0\0\0\x02\0\0\0\0\0\0\0\x02";
+    let gain_hvcc = b"\0\0\0\x0AhvcC\x01\x01";
+    assert!(holds(&file, &[&light[..], clap, gain_hvcc].concat()));
+    let tiles_and_grids = [
+        &[0, 1, 4, 0x81, 0x82, 0x84, 0x8A][..],
+        &[0, 2, 4, 3, 0x84, 5, 9],
+        &[0, 3, 3, 0x86, 0x82, 0x8A],
+        &[0, 4, 3, 3, 7, 8],
+        &[0, 5, 5, 0x8B, 12, 13, 14, 15],
+        &[0, 7, 2, 16, 17],
+    ];
+    assert!(holds(&file, &tiles_and_grids.concat()));
 }
 
 #[test]

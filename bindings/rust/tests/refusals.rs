@@ -3,7 +3,7 @@
 mod common;
 
 use common::{p, with_gain};
-use kahopiru::{file_length, sys, to_vec, write, GridDims, Panel, Refusal, Samples};
+use kahopiru::{file_length, sys, to_vec, write, GridDims, Panel, Refusal, Samples, VisibleSize};
 
 /// What refuses a panel: the same for every call, and no byte of the output is touched.
 fn refusal(panel: &Panel<'_>) -> Refusal {
@@ -61,6 +61,55 @@ fn tiles_that_do_not_cover_the_picture_are_refused() {
     assert_eq!(refusal(&Panel { dims: GridDims { cols: 0, ..uncovered }, ..p() }), Refusal::GridSide);
     let miscounted = Samples { lengths: &[1, 0], ..p().color_samples };
     assert_eq!(refusal(&Panel { dims: uncovered, color_samples: miscounted, ..p() }), Refusal::Cover);
+}
+
+#[test]
+fn visible_sizes_of_0_and_above_the_decoded_one_are_refused() {
+    // The size of a tile, its visible size, and what is answered; the same with the axes exchanged.
+    let sized = |[tile_w, tile_h]: [u32; 2], [w, h]: [u32; 2], expected: Result<(), Refusal>| {
+        for (tile_w, tile_h, w, h) in [(tile_w, tile_h, w, h), (tile_h, tile_w, h, w)] {
+            let dims = GridDims { tile_w, tile_h, full_w: 1, full_h: 1, ..p().dims };
+            let panel = Panel { dims, visible: Some(VisibleSize { w, h }), ..p() };
+            let answer = file_length(&panel).map_or_else(|_| Err(refusal(&panel)), |_| Ok(()));
+            assert_eq!(answer, expected, "{tile_w} × {tile_h}, visible {w} × {h}");
+        }
+    };
+    let most = 0x7FFF_FFFF;
+    sized([64, 66], [63, 65], Ok(()));
+    sized([64, 66], [64, 66], Ok(()));
+    sized([64, 66], [1, 66], Ok(()));
+    sized([most, 66], [1, 66], Ok(()));
+    sized([most, most], [most, most], Ok(()));
+    sized([64, 66], [0, 66], Err(Refusal::VisibleSize));
+    sized([64, 66], [65, 66], Err(Refusal::VisibleSize));
+    sized([64, 66], [u32::MAX, 66], Err(Refusal::VisibleSize));
+    sized([most + 1, 66], [64, 66], Err(Refusal::VisibleSize));
+    sized([u32::MAX, 66], [u32::MAX, 66], Err(Refusal::VisibleSize));
+    sized([0, 66], [0, 66], Err(Refusal::VisibleSize));
+    sized([0, 66], [1, 66], Err(Refusal::VisibleSize));
+}
+
+#[test]
+fn with_a_visible_size_it_is_that_which_covers_the_picture() {
+    let lengths = [0; 6];
+    let sized = |full_w, full_h, visible| {
+        let panel = grid(3, 2, &lengths);
+        let dims = GridDims { tile_w: 64, tile_h: 32, full_w, full_h, ..panel.dims };
+        let panel = Panel { dims, visible, ..panel };
+        file_length(&panel).map_or_else(|_| Err(refusal(&panel)), |_| Ok(()))
+    };
+    let odd = Some(VisibleSize { w: 63, h: 31 });
+    assert_eq!(sized(189, 62, odd), Ok(()));
+    assert_eq!(sized(190, 62, odd), Err(Refusal::Cover));
+    assert_eq!(sized(189, 63, odd), Err(Refusal::Cover));
+    assert_eq!(sized(0, 62, odd), Err(Refusal::Cover));
+    assert_eq!(sized(189, 0, odd), Err(Refusal::Cover));
+    assert_eq!(sized(190, 63, None), Ok(()));
+    // 1 comes before 22, and that before 8 and before 2.
+    let none = Some(VisibleSize { w: 0, h: 31 });
+    assert_eq!(sized(193, 62, none), Err(Refusal::VisibleSize));
+    assert_eq!(refusal(&Panel { visible: none, ..grid(0, 2, &lengths) }), Refusal::GridSide);
+    assert_eq!(refusal(&Panel { visible: none, ..grid(3, 1, &lengths) }), Refusal::VisibleSize);
 }
 
 #[test]
@@ -135,7 +184,7 @@ fn short_room_is_refused_and_exact_room_is_filled() {
 }
 
 /// The refusals in the words that the README, the header and the program have too.
-const WORDS: [(u32, &str); 13] = [
+const WORDS: [(u32, &str); 14] = [
     (1, "there are no rows or no columns, or more than 256"),
     (2, "there is not exactly one sample length for each tile, in the colour list or in the alpha list"),
     (3, "the lengths do not add up to the sample bytes that were handed over"),
@@ -143,12 +192,13 @@ const WORDS: [(u32, &str); 13] = [
     (5, "the file would be longer than 4,294,967,295 bytes"),
     (6, "the room for the file is too short"),
     (7, "the item id names no tile"),
-    (8, "a size of a tile or of the whole picture is 0, or the tiles do not cover the whole picture"),
+    (8, "a size of a tile or of the whole picture is 0, or what the tiles show does not cover the whole picture"),
     (11, "the sheet ends before its fields do"),
     (12, "the sheet's map asks for something that there is not, or for a part without the part that it belongs to"),
     (13, "a depth, an orientation, a colour code or a yes or no is none that exists"),
     (14, "bytes are left over behind the sheet's last field"),
     (15, "the sheet has more than 12,288 bytes"),
+    (22, "a tile's visible size is 0 or above its decoded size, or its decoded size is above 2,147,483,647"),
 ];
 
 #[test]
@@ -166,6 +216,8 @@ fn codes_that_no_enum_has_are_refused_by_the_archive_itself() {
         sys::Panel { orientation: 8, ..sys::Panel::default() },
         sys::Panel { bit_depth: 3, ..sys::Panel::default() },
         sys::Panel { alpha_bit_depth: 3, ..sys::Panel::default() },
+        sys::Panel { has_visible: 2, ..sys::Panel::default() },
+        sys::Panel { has_visible: 255, ..sys::Panel::default() },
     ] {
         assert_eq!(sys::file_length(panel, &sys::Lent::default()), sys::Answer { refusal: 13, length: 0 });
     }

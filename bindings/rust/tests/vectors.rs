@@ -96,6 +96,7 @@ fn written(sheet: &[u8]) -> Vec<u8> {
     assert!(r.0.is_empty(), "bytes are left over");
     let panel = Panel {
         dims,
+        visible: None,
         bit_depth,
         alpha_bit_depth,
         color_hvcc,
