@@ -2,8 +2,9 @@
 //!
 //! The source is looked for in the folder that `KAHOPIRU_UPSTREAM` names, else in ../shared/docs/src beside the
 //! repository. It must be the very source that the comparison speaks of: upstream.sha256 holds the digest of each file.
-//! All is taken as published, but for two things. `build_hvcc` returns the record that it is given, by one line
-//! inserted as the first of its body; and of gain_map.rs, which leans on the encoder, only the two items that the writer
+//! All is taken as published, but for three things. `build_hvcc` returns the record that it is given, by one line
+//! inserted as the first of its body; `write_clap`, which is private to its file, is made visible to src/lib.rs, by
+//! `pub(crate)` before its `fn`; and of gain_map.rs, which leans on the encoder, only the two items that the writer
 //! takes are kept. Nothing of it is stored in the repository.
 
 use std::fs;
@@ -14,6 +15,9 @@ const DIGESTS: &str = "upstream.sha256";
 
 /// The inserted line. The record lies ready in our stand-in for the coded stream (src/hevc.rs).
 const INSERTED: &str = "    return Ok({ let _ = bit_depth; stream.record.take() });";
+
+/// The function that src/lib.rs calls beside the writer.
+const CALLED: &str = "fn write_clap(";
 
 fn stop(why: &str) -> ! {
     eprintln!("oracle: {why}");
@@ -78,6 +82,16 @@ fn insert_after(source: &str, begins: &str, ends: &str, line: &str) -> String {
     out
 }
 
+/// A source in which the one line that begins so, a private function's, begins with `pub(crate)`.
+fn make_visible(source: &str, begins: &str) -> String {
+    let begun = format!("\n{begins}");
+    let count = source.matches(&begun).count();
+    if count != 1 {
+        stop(&format!("'{begins}' begins {count} lines of upstream's source, not one"));
+    }
+    source.replace(&begun, &format!("\npub(crate) {begins}"))
+}
+
 /// The lines of an item, from the line that begins so to the first that ends so.
 fn item(source: &str, begins: &str, ends: &str) -> String {
     let from = source.lines().skip_while(|l| !l.starts_with(begins));
@@ -112,7 +126,8 @@ fn main() {
     check_digests(&manifest, &upstream);
 
     let src = upstream.join("src");
-    let isobmff = insert_after(&read(&src.join("isobmff.rs")), "fn build_hvcc(", "{", INSERTED);
+    let isobmff = make_visible(&read(&src.join("isobmff.rs")), CALLED);
+    let isobmff = insert_after(&isobmff, "fn build_hvcc(", "{", INSERTED);
     // A file that #[path] names looks for its own modules beside itself; so isobmff.rs gets a folder of its own.
     fs::create_dir_all(out.join("isobmff")).unwrap_or_else(|e| stop(&format!("{}: {e}", out.display())));
     let mut files = vec![

@@ -1,11 +1,12 @@
 //! Every value of every code that the archive takes: 13 exactly where it names nothing.
 
 use crate::compare::{judge, same_answer, Room};
-use crate::panels::{full, p};
+use crate::panels::{full, p, Case};
+use crate::predict;
 use crate::random::Rng;
-use crate::raw;
 use crate::run::Run;
-use kahopiru::sys;
+use crate::{raw, reference};
+use kahopiru::{sys, GridDims, VisibleSize};
 use std::ops::RangeInclusive;
 
 /// A code: how it is set, how large its field is, and the values that name something.
@@ -41,6 +42,7 @@ fn fields() -> Vec<Field> {
         byte("has_light", YES_NO, |p, v| p.has_light = v as u8),
         byte("has_exif", YES_NO, |p, v| p.has_exif = v as u8),
         byte("has_gain", YES_NO, |p, v| p.has_gain = v as u8),
+        byte("has_visible", YES_NO, |p, v| p.has_visible = v as u8),
         byte("color.has_cicp", YES_NO, |p, v| p.color.has_cicp = v as u8),
         byte("color.has_icc", YES_NO, |p, v| p.color.has_icc = v as u8),
         word("color.cicp.primaries", PRIMARIES, |p, v| p.color.cicp.primaries = v),
@@ -66,7 +68,7 @@ fn fields() -> Vec<Field> {
 /// Each value of each code in a panel that has every part, and in one that is also refused with 1: 13 comes first.
 /// Answers how many codes were tried, and how many of them name nothing.
 pub fn run(run: &mut Run) -> (u64, u64) {
-    let case = full();
+    let case = full().with_visible(63, 62);
     let mut rng = Rng::new(0);
     let good = raw::numbers(&case, &mut rng);
     let lent = raw::lent(&case, &[]);
@@ -84,6 +86,7 @@ pub fn run(run: &mut Run) -> (u64, u64) {
             unnamed += u64::from(!named);
         }
     }
+    visible_sizes(run);
     null_parts(run);
     (tried, unnamed)
 }
@@ -107,10 +110,42 @@ fn one(mut panel: sys::Panel, named: bool, lent: &sys::Lent<'_>, room: &mut Room
     judge(expected, &[], answer, room)
 }
 
+/// Every has_visible beside every size of interest, good or not: 0 looks at none of them, 1 at both, and any other is
+/// refused with 13.
+fn visible_sizes(run: &mut Run) {
+    let sizes = [0, 1, 63, 64, 65, 1 << 31, u32::MAX];
+    let mut room = Room::new();
+    for base in [p(), Case { dims: GridDims { tile_w: 0, ..p().dims }, ..p() }] {
+        for (visible_w, visible_h) in sizes.into_iter().flat_map(|w| sizes.map(|h| (w, h))) {
+            for has_visible in 0..=u8::MAX {
+                let visible = (has_visible == 1).then_some(VisibleSize { w: visible_w, h: visible_h });
+                let case = Case { visible, ..base.clone() };
+                let numbers = raw::numbers(&case, &mut Rng::new(0));
+                let numbers = sys::Panel { has_visible, visible_w, visible_h, ..numbers };
+                run.calls += 2;
+                if let Err(why) = with_numbers(numbers, &case, &mut room) {
+                    run.fail(&format!("has_visible {has_visible}, {visible_w} by {visible_h}"), &why, &numbers);
+                }
+            }
+        }
+    }
+}
+
+/// Both calls on a panel whose numbers are these.
+fn with_numbers(numbers: sys::Panel, case: &Case, room: &mut Room) -> Result<(), String> {
+    let known = numbers.has_visible <= 1;
+    let expected = |room| if known { predict::answer(&case.panel(), room) } else { Err(13) };
+    let lent = raw::lent(case, &[]);
+    same_answer(expected(None), raw::answer(sys::file_length(numbers, &lent)))?;
+    let file = if expected(None).is_ok() { reference::file(case)? } else { Vec::new() };
+    let answer = raw::answer(sys::write(numbers, &lent, room.lend(700)));
+    judge(expected(Some(700)), &file, answer, room)
+}
+
 /// A null pointer with length 0 is an empty part.
 fn null_parts(run: &mut Run) {
     use std::ptr::null;
-    let case = crate::panels::Case { color_hvcc: vec![], alpha_hvcc: vec![], ..p() }.with_empty_grid(1, 1);
+    let case = Case { color_hvcc: vec![], alpha_hvcc: vec![], ..p() }.with_empty_grid(1, 1);
     let numbers = raw::numbers(&case, &mut Rng::new(0));
     let n = null::<u8>();
     let lengths = case.color_lengths.as_ptr();

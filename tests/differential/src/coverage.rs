@@ -1,8 +1,10 @@
-//! What has occurred among the random panels that were accepted, and among those whose tiles don't cover the picture.
-//! Whatever never did was not compared.
+//! What has occurred among the random panels that were accepted, among those whose tiles don't cover the picture, and
+//! among those with a visible size that is refused. Whatever never did was not compared.
 
 use crate::panels::{Case, Color, Gain};
+use crate::random::MOST_DECODED;
 use crate::reference::MARKER;
+use crate::visible;
 use kahopiru::{BitDepth, Cicp, MatrixCoefficients, Orientation, Primaries, TransferFunction};
 
 type Holds = Box<dyn Fn(&Case) -> bool>;
@@ -22,6 +24,7 @@ impl Coverage {
         all.codes("cicp", |c| c.color.cicp);
         all.codes("gain map's cicp", |c| c.gain.as_ref().map(|g| g.cicp));
         all.codes("alternate cicp", |c| alternate_of(c).and_then(|a| a.cicp));
+        all.visible_sizes();
         for (name, axis) in AXES {
             all.add(format!("{name}: the tiles end where the picture does"), move |c| axis(c).over() == 0);
             all.add(format!("{name}: the tiles reach one further"), move |c| axis(c).over() == 1);
@@ -36,10 +39,35 @@ impl Coverage {
         let mut all = Coverage(Vec::new());
         for (name, axis) in AXES {
             all.add(format!("{name}: the tiles end one too early"), move |c| axis(c).over() == -1);
-            all.add(format!("{name}: no full size"), move |c| axis(c).full == 0 && axis(c).tile > 0);
-            all.add(format!("{name}: no tile size"), move |c| axis(c).full > 0 && axis(c).tile == 0);
+            all.add(format!("{name}: no full size"), move |c| axis(c).full == 0 && axis(c).shown > 0);
+            all.add(format!("{name}: no tile size"), move |c| axis(c).full > 0 && axis(c).shown == 0);
+            all.add(format!("{name}: no full size, and a visible size"), move |c| {
+                axis(c).full == 0 && c.visible.is_some()
+            });
+            all.add(format!("{name}: the tiles cover, what is shown of them does not"), move |c| {
+                axis(c).over() < 0 && axis(c).decoded_sum() >= i64::from(axis(c).full)
+            });
         }
         all.add("a wrong count of lengths", |c| c.color_lengths.len() != c.alpha_lengths.len());
+        all
+    }
+
+    /// What is looked for in panels that are refused because of their visible size.
+    pub fn of_misfits() -> Coverage {
+        let mut all = Coverage(Vec::new());
+        // Tiles of which nothing is shown never cover.
+        let covers = |axis: Axis| axis.shown == 0 || (axis.full > 0 && axis.over() >= 0);
+        for (name, holds) in visible::CAUSES {
+            all.add(name, move |c| visible::caused(c, holds));
+            all.add(format!("{name}, and nothing else"), move |c| {
+                visible::causes(c) == [name] && AXES.iter().all(|(_, axis)| covers(axis(c)))
+            });
+        }
+        for (name, axis) in AXES {
+            all.add(format!("{name}: no tile size"), move |c| axis(c).tile == 0);
+            all.add(format!("{name}: one more than the tile"), move |c| axis(c).hidden() == -1);
+            all.add(format!("{name}: what is shown does not cover the picture"), move |c| axis(c).over() < 0);
+        }
         all
     }
 
@@ -48,6 +76,11 @@ impl Coverage {
         for (_, holds, count) in &mut self.0 {
             *count += u64::from(holds(case));
         }
+    }
+
+    /// How many panels had the thing of a name.
+    pub fn of(&self, name: &str) -> u64 {
+        self.0.iter().filter(|(each, _, _)| each == name).map(|(_, _, count)| count).sum()
     }
 
     /// How many things were looked for.
@@ -95,6 +128,66 @@ impl Coverage {
         self.add("grid of one tile", |c| c.color_lengths.len() == 1);
         self.add("256 rows", |c| c.dims.rows == 256);
         self.add("256 columns", |c| c.dims.cols == 256);
+    }
+
+    /// Visible sizes of each kind, and beside what else a panel may have.
+    fn visible_sizes(&mut self) {
+        self.both("visible size", |c| c.visible.is_some());
+        for (name, axis) in AXES {
+            self.visible(&format!("{name}: all is shown"), move |c| axis(c).shown == axis(c).tile);
+            self.visible(&format!("{name}: all but one is shown"), move |c| axis(c).hidden() == 1);
+            self.visible(&format!("{name}: one is shown"), move |c| axis(c).shown == 1 && axis(c).hidden() > 1);
+            self.visible(&format!("{name}: little is shown"), move |c| axis(c).shown < axis(c).tile / 8);
+            self.visible(&format!("{name}: an odd part of an even side"), move |c| {
+                axis(c).shown % 2 == 1 && axis(c).tile % 2 == 0
+            });
+            self.visible(&format!("{name}: the longest side"), move |c| axis(c).tile == MOST_DECODED);
+            self.visible(&format!("{name}: all of the longest side"), move |c| axis(c).shown == MOST_DECODED);
+            self.visible(&format!("{name}: the picture ends where what is shown does"), move |c| axis(c).over() == 0);
+            self.visible(&format!("{name}: what is shown reaches one further"), move |c| axis(c).over() == 1);
+        }
+        let [across, down] = AXES.map(|(_, axis)| move |c: &Case| axis(c).hidden() > 0);
+        self.visible("cut across alone", move |c| across(c) && !down(c));
+        self.visible("cut down alone", move |c| down(c) && !across(c));
+        self.visible("cut across and down", move |c| across(c) && down(c));
+        self.visible("not cut at all", move |c| !across(c) && !down(c));
+        self.visible_beside();
+    }
+
+    /// Visible sizes beside what stands before the clap or behind it, or names it.
+    fn visible_beside(&mut self) {
+        self.visible("one tile", |c| c.color_lengths.len() == 1);
+        self.visible("several tiles", |c| c.color_lengths.len() > 1);
+        self.visible("256 rows", |c| c.dims.rows == 256);
+        self.visible("256 columns", |c| c.dims.cols == 256);
+        self.visible("12-byte descriptor", |c| c.dims.full_w > 65_535 || c.dims.full_h > 65_535);
+        self.visible("Exif with its marker", |c| c.exif.as_ref().is_some_and(|e| e.starts_with(&MARKER)));
+        self.visible("alpha's own depth", |c| c.bit_depth != c.alpha_bit_depth);
+        self.visible("rext gain record, colour not", |c| gained(c, |g| rext(&g.hvcc)) && !rext(&c.color_hvcc));
+        self.visible("an alternate cicp and ICC", |c| toned(c, |a| a.cicp.is_some() && a.icc.is_some()));
+        for orientation in Orientation::ALL {
+            self.visible(&format!("{orientation:?}"), move |c| c.orientation == orientation);
+        }
+        let second_colr = |c: &Case| c.color.cicp.is_some() && c.color.icc.is_some();
+        let turned = |c: &Case| c.orientation != Orientation::Normal;
+        // Each of the properties before the clap, there or not, beside each kind of gain map.
+        for bits in 0..8 {
+            let told =
+                move |c: &Case| [second_colr(c), turned(c), c.light.is_some()] == [1, 2, 4].map(|b| bits & b > 0);
+            let parts: Vec<&str> = [(1, "second colr"), (2, "turn"), (4, "light level")]
+                .into_iter()
+                .filter_map(|(bit, name)| (bits & bit > 0).then_some(name))
+                .collect();
+            let name = if parts.is_empty() { "none before it".to_string() } else { parts.join(", ") };
+            self.visible(&format!("{name}; no gain map"), move |c| told(c) && c.gain.is_none());
+            self.visible(&format!("{name}; a gain map"), move |c| told(c) && gained(c, |g| g.tmap.is_none()));
+            self.visible(&format!("{name}; a tone map"), move |c| told(c) && gained(c, |g| g.tmap.is_some()));
+        }
+    }
+
+    /// A thing that a panel with a visible size has.
+    fn visible(&mut self, name: &str, holds: impl Fn(&Case) -> bool + 'static) {
+        self.add(format!("visible size: {name}"), move |c| c.visible.is_some() && holds(c));
     }
 
     fn enums(&mut self) {
@@ -182,27 +275,39 @@ impl Coverage {
     }
 }
 
-/// Along one axis: how many tiles, the size of each, and the full size.
+/// Along one axis: how many tiles, the size of each, what is shown of it, and the full size.
 struct Axis {
     tiles: u32,
     tile: u32,
+    shown: u32,
     full: u32,
 }
 
 impl Axis {
     fn sum(&self) -> i64 {
+        i64::from(self.tiles) * i64::from(self.shown)
+    }
+
+    fn decoded_sum(&self) -> i64 {
         i64::from(self.tiles) * i64::from(self.tile)
     }
 
-    /// How far the tiles reach beyond the picture.
+    /// How much of a tile is not shown.
+    fn hidden(&self) -> i64 {
+        i64::from(self.tile) - i64::from(self.shown)
+    }
+
+    /// How far the tiles, or what is shown of them, reach beyond the picture.
     fn over(&self) -> i64 {
         self.sum() - i64::from(self.full)
     }
 }
 
-const AXES: [(&str, fn(&Case) -> Axis); 2] = [
-    ("across", |c| Axis { tiles: c.dims.cols, tile: c.dims.tile_w, full: c.dims.full_w }),
-    ("down", |c| Axis { tiles: c.dims.rows, tile: c.dims.tile_h, full: c.dims.full_h }),
+type NamedAxis = (&'static str, fn(&Case) -> Axis);
+
+const AXES: [NamedAxis; 2] = [
+    ("across", |c| Axis { tiles: c.dims.cols, tile: c.dims.tile_w, shown: c.shown().w, full: c.dims.full_w }),
+    ("down", |c| Axis { tiles: c.dims.rows, tile: c.dims.tile_h, shown: c.shown().h, full: c.dims.full_h }),
 ];
 
 fn rext(record: &[u8]) -> bool {

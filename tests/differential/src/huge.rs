@@ -31,7 +31,7 @@ fn gain<'p, 'a>(p: &'p mut Panel<'a>) -> &'p mut kahopiru::EncodedGainMap<'a> {
 
 fn check(run: &mut Run, name: &str, panel: &Panel<'_>) {
     let expected = predict::answer(panel, None);
-    *run.panels.entry(expected.err().unwrap_or(0)).or_default() += 1;
+    run.count(panel, expected);
     let length = kahopiru::file_length(panel).map_err(Refusal::number);
     let mut out = [0x5A; 64];
     let written = kahopiru::write(panel, &mut out).map(|n| n as u64).map_err(Refusal::number);
@@ -48,15 +48,16 @@ fn check(run: &mut Run, name: &str, panel: &Panel<'_>) {
 pub fn lengths(run: &mut Run) {
     let zeros = Zeros::new(1 << 46);
     let zeros = zeros.slice();
-    let base = full();
-    for (name, put) in PARTS {
-        let mut panel = base.panel();
-        put(&mut panel, &[]);
-        let rest = predict::answer(&panel, None).expect("the full panel is accepted") as usize;
-        let most = MOST - rest;
-        for count in [most - 1, most, most + 1, MOST, MOST + 1, 2 * MOST, zeros.len()] {
-            put(&mut panel, &zeros[..count]);
-            check(run, &format!("{name} of {count} bytes"), &panel);
+    for base in [full(), full().with_visible(63, 1)] {
+        for (name, put) in PARTS {
+            let mut panel = base.panel();
+            put(&mut panel, &[]);
+            let rest = predict::answer(&panel, None).expect("the full panel is accepted") as usize;
+            let most = MOST - rest;
+            for count in [most - 1, most, most + 1, MOST, MOST + 1, 2 * MOST, zeros.len()] {
+                put(&mut panel, &zeros[..count]);
+                check(run, &format!("{name} of {count} bytes"), &panel);
+            }
         }
     }
     samples(run, zeros);
@@ -83,7 +84,7 @@ fn everything(run: &mut Run, zeros: &[u8]) {
     let tiles = 180 * 90; // 16,200 tiles of 4 GiB are just below 2⁴⁶ bytes
     let lengths = vec![u32::MAX; tiles];
     let samples = Samples { lengths: &lengths, bytes: &zeros[..tiles * MOST] };
-    let base = full();
+    let base = full().with_visible(63, 63);
     let mut panel = base.panel();
     (panel.dims.cols, panel.dims.rows) = (180, 90);
     (panel.color_samples, panel.alpha_samples) = (samples, samples);

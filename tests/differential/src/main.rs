@@ -1,11 +1,13 @@
 //! The writer compared with upstream's: the same panels to both, through the binding and through the archive's own
 //! interface; every answer, every byte of the file, and every byte that must not be written.
 
+mod clap;
 mod codes;
 mod compare;
 mod coverage;
 mod differences;
 mod exifs;
+mod faults;
 mod fence;
 mod huge;
 mod memory;
@@ -26,6 +28,7 @@ mod tiles;
 mod trials;
 mod upstream;
 mod vectors;
+mod visible;
 
 use coverage::Coverage;
 use random::Rng;
@@ -78,15 +81,16 @@ fn set(name: &str, run: &mut Run, go: impl FnOnce(&mut Run)) {
     let (before, failed) = (run.panels.clone(), run.failures);
     go(run);
     let count = |n: u32| run.panels.get(&n).unwrap_or(&0) - before.get(&n).unwrap_or(&0);
-    let refused: u64 = (1..=13).map(count).sum();
+    let refused: u64 = run.panels.keys().filter(|n| **n != 0).map(|n| count(*n)).sum();
     println!("{name}: {} accepted, {refused} refused, {} differ", count(0), run.failures - failed);
 }
 
 /// Draws panels. Fails if too few were accepted, or if something looked for never occurred among the accepted or among
-/// those refused with 8.
+/// those refused with 8 or with 22.
 fn random(run: &mut Run, seed: u64, panels: u64) {
     let (mut rng, mut accepted) = (Rng::new(seed), 0);
     let (mut coverage, mut uncovered) = (Coverage::of_accepted(), Coverage::of_uncovered());
+    let mut misfits = Coverage::of_misfits();
     for number in 0..panels {
         let case = random::panel(&mut rng);
         match run.panel(&format!("random panel {number} of seed {seed}"), &case) {
@@ -95,19 +99,27 @@ fn random(run: &mut Run, seed: u64, panels: u64) {
                 coverage.count(&case);
             }
             Some(8) => uncovered.count(&case),
+            Some(22) => misfits.count(&case),
             Some(_) => {}
         }
     }
     if accepted < panels / 10 * 9 {
         run.fail("random panels", "fewer than nine in ten were accepted", &accepted);
     }
-    for (of, among) in [(&coverage, "an accepted panel"), (&uncovered, "a panel refused with 8")] {
+    for (of, among) in [
+        (&coverage, "an accepted panel"),
+        (&uncovered, "a panel refused with 8"),
+        (&misfits, "a panel refused with 22"),
+    ] {
         for name in of.missing() {
             run.fail("random panels", &format!("never occurred in {among}"), &name);
         }
         let (rarest, count) = of.rarest();
         println!("random panels: of {} things looked for in {among} the rarest is '{rarest}', in {count}", of.len());
     }
+    println!("random panels: {} of the {accepted} accepted have a visible size", coverage.of("visible size"));
+    let causes: Vec<String> = visible::CAUSES.iter().map(|(name, _)| format!("{name} {}", misfits.of(name))).collect();
+    println!("random panels: refused with 22: {}", causes.join(", "));
 }
 
 /// Compares sheets and says what they were.
@@ -132,9 +144,12 @@ fn everything(options: &Options) -> Run {
     set("Exif markers", &mut run, sets::exif_markers);
     set("descriptors", &mut run, sets::descriptors);
     set("sizes that tiles cover, or not", &mut run, sets::covers);
+    set("sizes around visible ones", &mut run, visible::run_sizes);
+    set("visible sizes beside all else", &mut run, visible::run_beside);
     set("last ids", &mut run, sets::last_ids);
     set("refusals", &mut run, sets::refusals);
     set("lengths around 4 GiB", &mut run, huge::lengths);
+    set("two checks at once", &mut run, orders::panels);
     let ordered = orders::run(&mut run);
     println!("the order of the checks: {ordered} calls at which two hold");
     let parts = differences::run(&mut run);
@@ -158,6 +173,7 @@ fn report(run: &Run) -> bool {
     let refused: Vec<String> =
         run.panels.iter().filter(|(n, _)| **n != 0).map(|(n, count)| format!("{count} with {n}")).collect();
     println!("panels: {} accepted; refused: {}", run.panels.get(&0).unwrap_or(&0), refused.join(", "));
+    println!("visible sizes: in {} of the accepted panels", run.visible);
     println!("calls compared: {}, of which {} into too little room, refused with 6", run.calls, run.short_rooms);
     let (unnoticed, made) = selftest::run();
     for name in &unnoticed {

@@ -1,5 +1,6 @@
-//! The order of the checks: for each two checks of a call that can hold at once, a call at which they do. What it must
-//! answer is compared; and the self-test exchanges each two checks in the prediction, which must be reported here.
+//! The order of the checks: for each two checks of a call that can hold at once, calls at which they do: 22 for each of
+//! its causes, the others without a visible size and with one. What they must answer is compared; and the self-test
+//! exchanges each two checks in the prediction, which must be reported here.
 
 use crate::compare::{judge, Room};
 use crate::memory::Zeros;
@@ -10,13 +11,13 @@ use crate::run::Run;
 use crate::sheet::sheet;
 use crate::sheets::{self, ROOM};
 use crate::tiles::{self, MOST_TILES};
-use kahopiru::{sys, Cicp, Refusal, Samples};
+use kahopiru::{sys, Cicp, Refusal, Samples, VisibleSize};
 
 /// The checks of each call, in the order in which they are made; that 13 comes before them, codes.rs tries. Where a
 /// sheet is spoiled, the reading meets the depths (13) before the end (11).
 const ORDERS: [(&str, &[u32]); 4] = [
-    ("write", &[1, 8, 2, 3, 4, 5, 6]),
-    ("file_length", &[1, 8, 2, 3, 4, 5]),
+    ("write", &[1, 22, 8, 2, 3, 4, 5, 6]),
+    ("file_length", &[1, 22, 8, 2, 3, 4, 5]),
     ("tile", &[2, 3, 4, 7]),
     ("sheet", &[15, 12, 13, 11, 14, 1, 8, 6]),
 ];
@@ -58,8 +59,48 @@ fn kept(answer: Answer, room: &Room) -> bool {
 
 // ---- panels
 
+/// A tile for P: its size, and what is shown of it.
+struct Tile {
+    size: (u32, u32),
+    visible: Option<(u32, u32)>,
+}
+
+const fn tile(size: (u32, u32), visible: (u32, u32)) -> Tile {
+    Tile { size, visible: Some(visible) }
+}
+
+/// Tiles without a visible size, and with one that is not refused.
+const GOOD: [Tile; 4] = [
+    Tile { size: (64, 64), visible: None },
+    tile((64, 64), (64, 64)),
+    tile((66, 66), (65, 64)),
+    tile((66, 66), (64, 65)),
+];
+
+/// Tiles for which 22 holds, by one cause each, and that cover P.
+const MISFITS: [Tile; 6] = [
+    tile((64, 64), (65, 64)),
+    tile((64, 64), (64, 65)),
+    tile((0, 64), (64, 64)),
+    tile((64, 0), (64, 64)),
+    tile((1 << 31, 64), (64, 64)),
+    tile((64, 1 << 31), (64, 64)),
+];
+
+/// Tiles for which 22 holds, and that cover nothing, so that 8 does, too.
+const SHOWING_NOTHING: [Tile; 3] = [tile((64, 64), (0, 64)), tile((64, 64), (64, 0)), tile((0, 0), (0, 0))];
+
+/// The tiles of panels for which these two checks hold, and none that is made before the second.
+fn tiles_for(pair: Pair) -> Vec<&'static Tile> {
+    match pair {
+        [1, 22] | [22, 8] => MISFITS.iter().chain(&SHOWING_NOTHING).collect(),
+        _ if pair.contains(&22) => MISFITS.iter().collect(),
+        _ => GOOD.iter().collect(),
+    }
+}
+
 /// A panel for which these checks hold.
-fn spoiled(pair: Pair) -> Case {
+fn spoiled(pair: Pair, tile: &Tile) -> Case {
     let has = |number| pair.contains(&number);
     let mut case = match (has(1), has(4)) {
         (false, false) => p(),
@@ -67,8 +108,10 @@ fn spoiled(pair: Pair) -> Case {
         (false, true) => p().with_empty_grid(256, 256),
         (true, true) => p().with_empty_grid(256, 257),
     };
+    (case.dims.tile_w, case.dims.tile_h) = tile.size;
+    case.visible = tile.visible.map(|(w, h)| VisibleSize { w, h });
     if has(8) {
-        case.dims.full_w = case.dims.cols * case.dims.tile_w + 1;
+        case.dims.full_w = case.dims.cols * case.shown().w + 1;
     }
     if has(2) {
         case.color_lengths.push(0);
@@ -80,8 +123,8 @@ fn spoiled(pair: Pair) -> Case {
 }
 
 /// The writing call or the length call. The Exif that makes a file too long is not read.
-fn panel_call(name: &'static str, pair: Pair, zeros: &[u8]) -> Call {
-    let case = spoiled(pair);
+fn panel_call(name: &'static str, pair: Pair, tile: &Tile, zeros: &[u8]) -> Call {
+    let case = spoiled(pair, tile);
     let mut panel = case.panel();
     if pair.contains(&5) {
         panel.metadata.exif = Some(zeros);
@@ -162,16 +205,27 @@ fn sheet_call(pair: Pair, bytes: &[u8]) -> Call {
 
 fn calls() -> Vec<Call> {
     let zeros = Zeros::new(1 << 32);
-    let call = |(name, pair)| match name {
-        "tile" => lookup_call(pair),
-        "sheet" => sheet_call(pair, &spoiled_sheet(pair, DEPTH)),
-        _ => panel_call(name, pair, zeros.slice()),
+    let of_pair = |(name, pair)| match name {
+        "tile" => vec![lookup_call(pair)],
+        "sheet" => vec![sheet_call(pair, &spoiled_sheet(pair, DEPTH))],
+        _ => tiles_for(pair).into_iter().map(|tile| panel_call(name, pair, tile, zeros.slice())).collect(),
     };
-    let mut calls: Vec<Call> = pairs().into_iter().map(call).collect();
+    let mut calls: Vec<Call> = pairs().into_iter().flat_map(of_pair).collect();
     let codes = pairs().into_iter().filter(|(name, pair)| *name == "sheet" && pair.contains(&13));
     calls.extend(codes.map(|(_, pair)| sheet_call(pair, &spoiled_sheet(pair, ALPHA_DEPTH))));
     calls.push(sheet_call([13, 11], &half_a_colour()));
     calls
+}
+
+/// Compares the panels of which no part is too long to be read, by every call that judges a panel.
+pub fn panels(run: &mut Run) {
+    for (name, pair) in pairs() {
+        if name == "file_length" && !pair.contains(&5) {
+            for tile in tiles_for(pair) {
+                run.panel(&format!("a panel where {} and {} hold", pair[0], pair[1]), &spoiled(pair, tile));
+            }
+        }
+    }
 }
 
 /// Compares each call. Answers how many there are.

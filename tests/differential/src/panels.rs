@@ -3,6 +3,7 @@
 use kahopiru::Samples;
 use kahopiru::{
     BitDepth, Cicp, ColorMetadata, ContentLightLevel, EncodedGainMap, GridDims, Metadata, Orientation, Panel,
+    VisibleSize,
 };
 
 /// A colour that owns its profile.
@@ -30,6 +31,7 @@ pub struct Gain {
 #[derive(Clone, Debug, Default, PartialEq)]
 pub struct Case {
     pub dims: GridDims,
+    pub visible: Option<VisibleSize>,
     pub bit_depth: BitDepth,
     pub alpha_bit_depth: BitDepth,
     pub color_hvcc: Vec<u8>,
@@ -72,6 +74,7 @@ impl Case {
     pub fn panel(&self) -> Panel<'_> {
         Panel {
             dims: self.dims,
+            visible: self.visible,
             bit_depth: self.bit_depth,
             alpha_bit_depth: Some(self.alpha_bit_depth),
             color_hvcc: &self.color_hvcc,
@@ -97,6 +100,19 @@ impl Case {
         self.color_lengths = color;
         self.alpha_lengths = alpha;
         self
+    }
+
+    /// The same panel with a visible size, and with no more of a picture than that covers.
+    pub fn with_visible(mut self, w: u32, h: u32) -> Case {
+        self.visible = Some(VisibleSize { w, h });
+        self.dims.full_w = self.dims.full_w.min(w.saturating_mul(self.dims.cols));
+        self.dims.full_h = self.dims.full_h.min(h.saturating_mul(self.dims.rows));
+        self
+    }
+
+    /// The size of what is shown of a tile.
+    pub fn shown(&self) -> VisibleSize {
+        self.visible.unwrap_or(VisibleSize { w: self.dims.tile_w, h: self.dims.tile_h })
     }
 
     /// The same panel with this depth for colour and alpha.

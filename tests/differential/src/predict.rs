@@ -2,7 +2,7 @@
 //! upstream's code, which refuses less; the length is worked out by hand, as a sum of shares. It looks at lengths alone, so that
 //! parts may be far too long to be written.
 
-use kahopiru::{EncodedGainMap, Orientation, Panel, Samples};
+use kahopiru::{EncodedGainMap, Orientation, Panel, Samples, VisibleSize};
 
 /// A length, or the number of a refusal.
 pub type Answer = Result<u64, u32>;
@@ -23,11 +23,13 @@ pub fn holding(panel: &Panel<'_>, room: Option<usize>) -> Vec<u32> {
     let (rows, cols) = (i128::from(panel.dims.rows), i128::from(panel.dims.cols));
     let good_side = |side: i128| (1..=256).contains(&side);
     let dims = panel.dims;
+    let shown = panel.visible.unwrap_or(VisibleSize { w: dims.tile_w, h: dims.tile_h });
     let counts = |s: Samples<'_>| s.lengths.len() as i128 == tiles(panel);
     let length = length(panel);
     let checks = [
         (1, !good_side(rows) || !good_side(cols)),
-        (8, !covered(dims.cols, dims.tile_w, dims.full_w) || !covered(dims.rows, dims.tile_h, dims.full_h)),
+        (22, panel.visible.is_some_and(|v| !shows(v.w, dims.tile_w) || !shows(v.h, dims.tile_h))),
+        (8, !covered(dims.cols, shown.w, dims.full_w) || !covered(dims.rows, shown.h, dims.full_h)),
         (2, !counts(panel.color_samples) || !counts(panel.alpha_samples)),
         (3, !sums(panel.color_samples) || !sums(panel.alpha_samples)),
         (4, last_id(panel) > LAST_ID),
@@ -42,10 +44,16 @@ pub fn tiles(panel: &Panel<'_>) -> i128 {
     i128::from(panel.dims.rows) * i128::from(panel.dims.cols)
 }
 
-/// Whether a side of the picture has tiles enough: as many as its size takes, the last of which may be cut. A size of 0
-/// is none.
-fn covered(tiles: u32, tile: u32, full: u32) -> bool {
-    tile > 0 && full > 0 && full.div_ceil(tile) <= tiles
+/// Whether a tile has a side of which so much can be shown: something, and no more than there is, of a side that is
+/// also a number of 32 bits with a sign.
+fn shows(visible: u32, decoded: u32) -> bool {
+    i32::try_from(decoded).is_ok() && (1..=decoded).contains(&visible)
+}
+
+/// Whether a side of the picture has tiles enough: as many as its size takes, the last of which may be cut. Of a tile
+/// counts what is shown. A size of 0 is none.
+fn covered(tiles: u32, shown: u32, full: u32) -> bool {
+    shown > 0 && full > 0 && full.div_ceil(shown) <= tiles
 }
 
 /// Whether lengths sum to the bytes lent.
@@ -89,10 +97,11 @@ pub fn length(panel: &Panel<'_>) -> i128 {
         + bytes(panel.alpha_samples.bytes);
     let wide = panel.dims.full_w > 65_535 || panel.dims.full_h > 65_535;
     let turns = transforms(panel.metadata.orientation);
+    let visible = if panel.visible.is_some() { 40 + 2 * tiles(panel) } else { 0 };
     let light = if panel.metadata.content_light_level.is_some() { 13 } else { 0 };
     let exif = panel.metadata.exif.map_or(0, |e| 55 + bytes(e));
     let gain = panel.gain_map.map_or(0, |g| gain_share(&g, rext(panel.color_hvcc), turns));
-    bare + if wide { 8 } else { 0 } + 11 * turns + light + exif + profile_share(panel) + gain
+    bare + if wide { 8 } else { 0 } + 11 * turns + light + visible + exif + profile_share(panel) + gain
 }
 
 /// What a profile adds: a second colr beside code points, or one in place of the nclx of 19 bytes.

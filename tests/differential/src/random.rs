@@ -4,7 +4,7 @@ use crate::exifs::near_misses;
 use crate::panels::{Case, Color, Gain};
 use crate::reference::MARKER;
 use kahopiru::TransferFunction;
-use kahopiru::{BitDepth, Cicp, ContentLightLevel, GridDims, MatrixCoefficients, Orientation, Primaries};
+use kahopiru::{BitDepth, Cicp, ContentLightLevel, GridDims, MatrixCoefficients, Orientation, Primaries, VisibleSize};
 
 /// A generator of random numbers (SplitMix64): the same seed gives the same panels everywhere.
 pub struct Rng(u64);
@@ -100,18 +100,50 @@ fn size(rng: &mut Rng) -> u32 {
     }
 }
 
-/// The size of a tile and the full size along an axis with so many tiles, which cover it: often exactly, or with one to
-/// spare.
-fn axis(rng: &mut Rng, tiles: u32) -> (u32, u32) {
+/// The longest side of a tile of which a part is shown.
+pub const MOST_DECODED: u32 = i32::MAX as u32;
+
+/// Along one axis: the size of a tile, what is shown of it, and the full size.
+struct Axis {
+    tile: u32,
+    shown: u32,
+    full: u32,
+}
+
+/// Sizes along an axis with so many tiles, which cover it: often exactly, or with one to spare.
+fn axis(rng: &mut Rng, tiles: u32, visible: bool) -> Axis {
     let tile = size(rng).max(1);
-    let most = tile.saturating_mul(tiles);
+    let tile = if visible { tile.min(MOST_DECODED) } else { tile };
+    let shown = if visible { shown(rng, tile) } else { tile };
+    let most = shown.saturating_mul(tiles);
     let full = match rng.below(8) {
         0 | 1 => most,
         2 => most - 1,
         3 => 1,
         _ => 1 + rng.below(u64::from(most)) as u32,
     };
-    (tile, full.max(1))
+    Axis { tile, shown, full: full.max(1) }
+}
+
+/// What is shown of a tile's side: all, all but one, one, little, or anything.
+fn shown(rng: &mut Rng, tile: u32) -> u32 {
+    let shown = match rng.below(8) {
+        0 | 1 => tile,
+        2 | 3 => tile - 1,
+        4 => 1,
+        5 => rng.below(u64::from(tile / 8) + 1) as u32,
+        _ => rng.below(u64::from(tile)) as u32,
+    };
+    shown.max(1)
+}
+
+/// Gives a panel sizes that its tiles cover; one panel in three has a visible size.
+fn sizes(rng: &mut Rng, case: &mut Case) {
+    let visible = rng.once_in(3);
+    let (across, down) = (axis(rng, case.dims.cols, visible), axis(rng, case.dims.rows, visible));
+    (case.dims.tile_w, case.dims.full_w) = (across.tile, across.full);
+    (case.dims.tile_h, case.dims.full_h) = (down.tile, down.full);
+    case.visible = visible.then_some(VisibleSize { w: across.shown, h: down.shown });
 }
 
 /// Sides of the grid: mostly few tiles, seldom a long side.
@@ -146,13 +178,13 @@ fn gain(rng: &mut Rng) -> Gain {
 /// A panel, most probably one that is accepted.
 pub fn panel(rng: &mut Rng) -> Case {
     let (cols, rows) = grid(rng);
-    let ((tile_w, full_w), (tile_h, full_h)) = (axis(rng, cols), axis(rng, rows));
     let tiles = cols * rows;
     let (color_lengths, alpha_lengths) = (lengths(rng, tiles), lengths(rng, tiles));
     let bit_depth = rng.pick(&BitDepth::ALL);
     let samples = |rng: &mut Rng, lengths: &[u32]| (0..lengths.iter().sum()).map(|_| rng.next() as u8).collect();
     let mut case = Case {
-        dims: GridDims { cols, rows, tile_w, tile_h, full_w, full_h },
+        dims: GridDims { cols, rows, ..GridDims::default() },
+        visible: None,
         bit_depth,
         // Upstream has one depth for both.
         alpha_bit_depth: if rng.once_in(2) { bit_depth } else { rng.pick(&BitDepth::ALL) },
@@ -174,6 +206,10 @@ pub fn panel(rng: &mut Rng) -> Case {
     if rng.once_in(4000) {
         case = around_the_last_id(rng, case);
     }
+    sizes(rng, &mut case);
+    if rng.once_in(100) {
+        misfit(rng, &mut case);
+    }
     while rng.once_in(25) {
         spoil(rng, &mut case);
     }
@@ -183,10 +219,26 @@ pub fn panel(rng: &mut Rng) -> Case {
 /// The panel with so many empty tiles that the last id comes close to 65,535, on either side.
 fn around_the_last_id(rng: &mut Rng, case: Case) -> Case {
     let (cols, rows) = rng.pick(&[(254, 129), (129, 254), (217, 151), (255, 128), (255, 129), (256, 128), (256, 256)]);
-    let mut case = case.with_empty_grid(cols, rows);
-    (case.dims.tile_w, case.dims.full_w) = axis(rng, cols);
-    (case.dims.tile_h, case.dims.full_h) = axis(rng, rows);
-    case
+    case.with_empty_grid(cols, rows)
+}
+
+/// A visible size that the tiles do not have, or tiles too large for one; mostly one of these alone.
+fn misfit(rng: &mut Rng, case: &mut Case) {
+    let mut visible = case.shown();
+    let dims = &mut case.dims;
+    (dims.tile_w, dims.tile_h) = (dims.tile_w.min(MOST_DECODED), dims.tile_h.min(MOST_DECODED));
+    (visible.w, visible.h) = (visible.w.min(dims.tile_w), visible.h.min(dims.tile_h));
+    let (shown, tile) =
+        if rng.once_in(2) { (&mut visible.w, &mut dims.tile_w) } else { (&mut visible.h, &mut dims.tile_h) };
+    let too_large = [MOST_DECODED + 1, u32::MAX, 1 << 31 | rng.next() as u32];
+    match rng.below(5) {
+        0 => *shown = 0,
+        1 => *shown = *tile + 1,
+        2 => *shown = tile.saturating_add(rng.next() as u32),
+        3 => *tile = rng.pick(&too_large),
+        _ => *tile = 0,
+    }
+    case.visible = Some(visible);
 }
 
 /// Breaks one of the rules of a panel. Done twice it may mend it again, or break two.
@@ -200,7 +252,7 @@ fn spoil(rng: &mut Rng, case: &mut Case) {
         4 => case.color_samples.push(0),
         5 => case.alpha_samples.truncate(case.alpha_samples.len().saturating_sub(1)),
         6 => std::mem::swap(&mut case.color_lengths, &mut case.alpha_lengths),
-        7 => uncover(rng, &mut case.dims),
+        7 => uncover(rng, case),
         8 => {
             let dims = &mut case.dims;
             let size = [&mut dims.tile_w, &mut dims.tile_h, &mut dims.full_w, &mut dims.full_h];
@@ -214,11 +266,12 @@ fn spoil(rng: &mut Rng, case: &mut Case) {
     }
 }
 
-/// Makes the picture one wider or higher than its tiles reach, where 32 bits have that size.
-fn uncover(rng: &mut Rng, dims: &mut GridDims) {
+/// Makes the picture one wider or higher than what is shown of its tiles reaches, where 32 bits have that size.
+fn uncover(rng: &mut Rng, case: &mut Case) {
+    let (shown, dims) = (case.shown(), &mut case.dims);
     if rng.once_in(2) {
-        dims.full_w = dims.cols.saturating_mul(dims.tile_w).saturating_add(1);
+        dims.full_w = dims.cols.saturating_mul(shown.w).saturating_add(1);
     } else {
-        dims.full_h = dims.rows.saturating_mul(dims.tile_h).saturating_add(1);
+        dims.full_h = dims.rows.saturating_mul(shown.h).saturating_add(1);
     }
 }

@@ -77,6 +77,10 @@ fn stray_gain(rng: &mut Rng) -> sys::Gain {
 pub fn numbers(case: &Case, rng: &mut Rng) -> sys::Panel {
     let levels = case.light.map(|l| (l.max_content_light_level, l.max_pic_average_light_level));
     let (most, average) = levels.unwrap_or_else(|| (rng.next() as u16, rng.next() as u16));
+    // Beside none, often one that would be refused.
+    let stray_size = |rng: &mut Rng| if rng.once_in(2) { 0 } else { rng.next() as u32 };
+    let visible = case.visible.map(|v| (v.w, v.h));
+    let (visible_w, visible_h) = visible.unwrap_or_else(|| (stray_size(rng), stray_size(rng)));
     sys::Panel {
         cols: case.dims.cols,
         rows: case.dims.rows,
@@ -97,6 +101,9 @@ pub fn numbers(case: &Case, rng: &mut Rng) -> sys::Panel {
             Some(g) => gain(g, rng),
             None => stray_gain(rng),
         },
+        has_visible: case.visible.is_some() as u8,
+        visible_w,
+        visible_h,
     }
 }
 

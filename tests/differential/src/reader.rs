@@ -141,6 +141,7 @@ fn fields(left: &mut Left<'_>, stands: impl Fn(u32) -> bool) -> Case {
     let alternate = (stands(7) || stands(8)).then_some(other);
     Case {
         dims: GridDims { cols, rows, tile_w, tile_h, full_w, full_h },
+        visible: None,
         bit_depth,
         alpha_bit_depth,
         color_hvcc,

@@ -4,22 +4,27 @@
 //! depth is made the colour's, but for one byte, which is the alpha depth. Upstream writes four zero bytes before all
 //! Exif. Where that begins with its marker, the file is upstream's but for the fourth of them, which is 6. Where these
 //! bytes lie is worked out by hand from the panel's lengths, as a sum of shares, and upstream's file is held to what it
-//! must have there before it is changed.
+//! must have there before it is changed. Upstream's grids have no visible size: what it adds is put in last (clap.rs).
 
 use crate::panels::Case;
 use crate::predict::{length, one_if, rext, tiles};
-use crate::upstream;
+use crate::{clap, upstream};
 use kahopiru::Panel;
 
 /// The file of a panel that is accepted, or what upstream says instead.
 pub fn file(case: &Case) -> Result<Vec<u8>, String> {
     let mut file = upstream::write(case)?;
+    let whole = Panel { visible: None, ..case.panel() };
     if case.alpha_bit_depth != case.bit_depth {
         let depths = [case.bit_depth.bits(), case.alpha_bit_depth.bits()];
-        put_alpha_depth(&mut file, alpha_depth_at(&case.panel()), depths)?;
+        put_alpha_depth(&mut file, alpha_depth_at(&whole), depths)?;
     }
     if case.exif.as_ref().is_some_and(|exif| exif.starts_with(&MARKER)) {
-        put_tiff_offset(&mut file, tiff_offset_at(&case.panel()))?;
+        put_tiff_offset(&mut file, tiff_offset_at(&whole))?;
+    }
+    if case.visible.is_some() {
+        let panel = case.panel();
+        clap::put(&mut file, &panel, clap::place(&panel), &clap::of(&panel)?)?;
     }
     Ok(file)
 }

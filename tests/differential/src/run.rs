@@ -4,8 +4,8 @@ use crate::compare::{judge, said, same_answer, same_file, Room};
 use crate::panels::Case;
 use crate::predict::{self, Answer};
 use crate::random::Rng;
-use crate::{raw, reference};
-use kahopiru::{sys, Refusal};
+use crate::{raw, reference, visible};
+use kahopiru::{sys, Panel, Refusal};
 use std::collections::BTreeMap;
 
 /// How many failures are shown before the rest is only counted.
@@ -17,6 +17,8 @@ pub struct Run {
     rng: Rng,
     /// Panels by their answer: 0 for accepted, else the number of the refusal.
     pub panels: BTreeMap<u32, u64>,
+    /// Accepted panels with a visible size.
+    pub visible: u64,
     /// Writing calls that must find the room too short.
     pub short_rooms: u64,
     /// Calls whose answer and output were compared.
@@ -26,17 +28,40 @@ pub struct Run {
 
 impl Run {
     pub fn new(seed: u64) -> Run {
-        Run { room: Room::new(), rng: Rng::new(!seed), panels: BTreeMap::new(), short_rooms: 0, calls: 0, failures: 0 }
+        Run {
+            room: Room::new(),
+            rng: Rng::new(!seed),
+            panels: BTreeMap::new(),
+            visible: 0,
+            short_rooms: 0,
+            calls: 0,
+            failures: 0,
+        }
     }
 
     /// Compares all that is said and done with a panel. Answers the number of the refusal that is due, if one is.
     pub fn panel(&mut self, name: &str, case: &Case) -> Option<u32> {
         let expected = predict::answer(&case.panel(), None);
-        *self.panels.entry(expected.err().unwrap_or(0)).or_default() += 1;
+        self.count(&case.panel(), expected);
         if let Err(why) = self.compare(case, expected) {
             self.fail(name, &why, case);
         }
+        let causes = visible::causes(case);
+        let told = match expected {
+            Ok(_) => causes.is_empty(),
+            Err(22) => !causes.is_empty(),
+            Err(_) => true,
+        };
+        if !told {
+            self.fail(name, &format!("is predicted {}, with these causes for 22: {causes:?}", said(expected)), case);
+        }
         expected.err()
+    }
+
+    /// Counts a panel by its answer.
+    pub fn count(&mut self, panel: &Panel<'_>, answer: Answer) {
+        *self.panels.entry(answer.err().unwrap_or(0)).or_default() += 1;
+        self.visible += u64::from(answer.is_ok() && panel.visible.is_some());
     }
 
     /// Reports a difference.
@@ -71,11 +96,10 @@ impl Run {
         for room in rooms(&file, expected) {
             self.write_calls(case, &file, room)?;
         }
-        if expected.is_ok() {
-            let vector = kahopiru::to_vec(&case.panel()).map_err(|r| format!("to_vec: {r}"))?;
-            same_file(&file, &vector).map_err(|e| format!("to_vec: {e}"))?;
-        }
-        Ok(())
+        let vector = kahopiru::to_vec(&case.panel()).map_err(Refusal::number);
+        let answer = vector.as_ref().map(|v| v.len() as u64).map_err(|number| *number);
+        same_answer(expected, answer).map_err(|e| format!("to_vec {e}"))?;
+        same_file(&file, &vector.unwrap_or_default()).map_err(|e| format!("to_vec: {e}"))
     }
 
     fn length_calls(&mut self, case: &Case, expected: Answer) -> Result<(), String> {

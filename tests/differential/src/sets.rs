@@ -4,24 +4,56 @@ use crate::exifs::{near_misses, Start};
 use crate::panels::{full, p, small_gain, Case, Color, Gain, LIGHT};
 use crate::reference::MARKER;
 use crate::run::Run;
-use kahopiru::{BitDepth, Cicp, Orientation};
+use kahopiru::{BitDepth, Cicp, Orientation, VisibleSize};
+
+/// Panels and their names.
+type Named = Vec<(String, Case)>;
+
+fn run_all(run: &mut Run, panels: Named) {
+    for (name, case) in panels {
+        run.panel(&name, &case);
+    }
+}
+
+pub fn grids(run: &mut Run) {
+    run_all(run, every_grid());
+}
+
+pub fn combinations(run: &mut Run) {
+    run_all(run, every_combination());
+}
+
+pub fn depths(run: &mut Run) {
+    run_all(run, every_depth());
+}
+
+pub fn exif_markers(run: &mut Run) {
+    run_all(run, every_marker());
+}
+
+/// The panels of these four sets: all are accepted, and have no visible size.
+pub fn whole() -> Named {
+    [every_grid(), every_combination(), every_depth(), every_marker()].concat()
+}
 
 /// Every grid from 1 × 1 to 8 × 8, its samples of different lengths, empty ones among them.
-pub fn grids(run: &mut Run) {
+fn every_grid() -> Named {
+    let mut all = Vec::new();
     for rows in 1..=8 {
         for cols in 1..=8 {
             for base in [p(), full()] {
                 let color = (0..rows * cols).map(|i| i % 4).collect();
                 let alpha = (0..rows * cols).map(|i| (i + 2) % 3).collect();
-                run.panel(&format!("{rows} rows, {cols} columns"), &base.with_grid(cols, rows, color, alpha));
+                all.push((format!("{rows} rows, {cols} columns"), base.with_grid(cols, rows, color, alpha)));
             }
         }
     }
+    all
 }
 
 /// Every combination of small options, 384 of them: the gain map changes fastest, cicp slowest.
-pub fn combinations(run: &mut Run) {
-    let mut count = 0;
+fn every_combination() -> Named {
+    let mut all = Vec::new();
     for cicp in [None, Some(Cicp::bt709())] {
         for icc in [None, Some(vec![0])] {
             for orientation in Orientation::ALL {
@@ -30,19 +62,20 @@ pub fn combinations(run: &mut Run) {
                         for gain in [None, Some(small_gain(None)), Some(small_gain(Some(Vec::new())))] {
                             let color = Color { cicp, icc: icc.clone() };
                             let case = Case { color, orientation, light, exif: exif.clone(), gain, ..p() };
-                            run.panel(&format!("combination {count}"), &case);
-                            count += 1;
+                            all.push((format!("combination {}", all.len()), case));
                         }
                     }
                 }
             }
         }
     }
-    assert_eq!(count, 384);
+    assert_eq!(all.len(), 384);
+    all
 }
 
 /// Every pair of depths, of colour and alpha, in panels that have different things in front of the alpha depth.
-pub fn depths(run: &mut Run) {
+fn every_depth() -> Named {
+    let mut all = Vec::new();
     let profile = Color { cicp: None, icc: Some(vec![7; 5]) };
     let gain = |hvcc: &[u8], tmap| Some(Gain { hvcc: hvcc.to_vec(), ..small_gain(tmap) });
     for bit_depth in BitDepth::ALL {
@@ -57,18 +90,18 @@ pub fn depths(run: &mut Run) {
                 Case { gain: gain(&[1, 4], Some(vec![9])), color_hvcc: vec![1, 4], ..p() },
                 Case { color: profile.clone(), ..full() },
             ] {
-                run.panel(
-                    &format!("{bit_depth:?}, alpha {alpha_bit_depth:?}"),
-                    &Case { bit_depth, alpha_bit_depth, ..case },
-                );
+                let name = format!("{bit_depth:?}, alpha {alpha_bit_depth:?}");
+                all.push((name, Case { bit_depth, alpha_bit_depth, ..case }));
             }
         }
     }
+    all
 }
 
 /// Exif with its marker and nearly so, as it is, with a TIFF header behind it and with the marker behind it, in panels
 /// that have different things behind the Exif.
-pub fn exif_markers(run: &mut Run) {
+fn every_marker() -> Named {
+    let mut all = Vec::new();
     let marker = Start { name: "the marker", bytes: MARKER.to_vec() };
     for Start { name, bytes } in near_misses().into_iter().chain([marker]) {
         for tail in [&b""[..], b"MM\0*", &MARKER] {
@@ -78,10 +111,11 @@ pub fn exif_markers(run: &mut Run) {
                 Case { gain: Some(small_gain(None)), ..p() },
                 Case { alpha_bit_depth: BitDepth::Twelve, ..full() },
             ] {
-                run.panel(name, &Case { exif: exif.clone(), ..case });
+                all.push((name.to_string(), Case { exif: exif.clone(), ..case }));
             }
         }
     }
+    all
 }
 
 /// Sizes on either side of where the descriptor widens, for either side of the picture, in one tile.
@@ -163,11 +197,15 @@ pub fn refusals(run: &mut Run) {
             let mut case = base.with_grid(2, 2, vec![1, 0, 2, 3], vec![0, 0, 1, 1]);
             spoil(&mut case);
             run.panel("spoiled", &case);
-            // With a picture that is too wide for its tiles, and with no rows besides.
+            // With a picture that is too wide for its tiles, with more shown of them than there is, and with no rows
+            // besides.
             case.dims.full_w = 129;
             run.panel("spoiled and too wide", &case);
+            case.dims.full_w = 131;
+            case.visible = Some(VisibleSize { w: 65, h: 64 });
+            run.panel("spoiled, too wide, and with too wide a visible size", &case);
             case.dims.rows = 0;
-            run.panel("spoiled, too wide and without rows", &case);
+            run.panel("spoiled, too wide, with too wide a visible size, and without rows", &case);
         }
     }
 }

@@ -1,15 +1,15 @@
 //! The tile lookup, held to a computation of its own: every id from 0 to 2n + 4 over random lists, the refusals in their
-//! order, and for accepted panels what the entry of that id in upstream's file says.
+//! order, and for accepted panels what the entry of that id says in the file that they must have.
 
 use crate::panels::Case;
 use crate::random::{self, Rng};
+use crate::reference;
 use crate::run::Run;
-use crate::upstream;
 use kahopiru::{sys, tile, Refusal, Samples};
 
 /// How many random lists are drawn.
 const LISTS: u64 = 1_000;
-/// How many of them are also looked up in upstream's file.
+/// How many of them are also looked up in the file.
 const FILES: u64 = 200;
 /// The most tiles that have ids: 2n + 2 is at most 65,535.
 pub const MOST_TILES: usize = 32_766;
@@ -76,14 +76,14 @@ pub fn located(file: &[u8], id: u16) -> Option<(usize, usize)> {
     })
 }
 
-/// What the entries of upstream's file say of each tile.
+/// What the entries of the file say of each tile.
 fn in_file(case: &Case) -> Result<(), String> {
     let panel = case.panel();
-    let file = upstream::write(case)?;
+    let file = reference::file(case)?;
     let n = case.color_lengths.len() as u16;
     for id in (1..=n).chain(n + 2..=2 * n + 1) {
         let own = tile(id, panel.color_samples, panel.alpha_samples).map_err(|r| r.to_string())?;
-        let (offset, length) = located(&file, id).ok_or(format!("upstream's file has no item {id}"))?;
+        let (offset, length) = located(&file, id).ok_or(format!("the file has no item {id}"))?;
         if file[offset..offset + length] != *own {
             return Err(format!("id {id} is not what the file's entry says"));
         }

@@ -1,9 +1,9 @@
-//! The lettered trials of the specification, with the bytes that it names.
+//! The lettered trials of the specification, with the bytes that it names; and three of a visible size, byte by byte.
 
 use crate::panels::{p, small_gain, Case, LIGHT};
 use crate::predict::Answer;
 use crate::run::Run;
-use kahopiru::{Orientation, Refusal};
+use kahopiru::{GridDims, Orientation, Refusal};
 
 /// A trial: its letter, its panel, the room given, the answer, and bytes that the file holds.
 struct Trial {
@@ -25,6 +25,33 @@ fn wide(width: u32) -> Case {
     case
 }
 
+/// The same panel with tiles of 64 × 66, of which so much is visible.
+fn shown(case: Case, w: u32, h: u32) -> Case {
+    let dims = GridDims { tile_w: 64, tile_h: 66, ..case.dims };
+    Case { dims, ..case }.with_visible(w, h)
+}
+
+/// The same panel with tiles of 64 × 66, of which 63 × 65 are visible.
+fn odd(case: Case) -> Case {
+    shown(case, 63, 65)
+}
+
+/// The clap box of such tiles.
+fn odd_clap() -> Vec<u8> {
+    let numbers = [63, 1, 65, 1, -1, 2, -1, 2].map(i32::to_be_bytes).concat();
+    [&[0, 0, 0, 40], &b"clap"[..], &numbers].concat()
+}
+
+/// The clap box of tiles of 64 × 66, of which 63 × 61 are visible: its head, width, height, and how far either is below
+/// the tile's.
+const CLAP_63_61: [[u8; 8]; 5] = [
+    [0x00, 0x00, 0x00, 0x28, 0x63, 0x6C, 0x61, 0x70],
+    [0x00, 0x00, 0x00, 0x3F, 0x00, 0x00, 0x00, 0x01],
+    [0x00, 0x00, 0x00, 0x3D, 0x00, 0x00, 0x00, 0x01],
+    [0xFF, 0xFF, 0xFF, 0xFF, 0x00, 0x00, 0x00, 0x02],
+    [0xFF, 0xFF, 0xFF, 0xFB, 0x00, 0x00, 0x00, 0x02],
+];
+
 /// A box's type and what follows it.
 fn after(kind: &[u8; 4], bytes: &[u8]) -> Vec<u8> {
     [kind, bytes].concat()
@@ -40,6 +67,7 @@ fn trials() -> Vec<Trial> {
     let exif = Case { exif: Some(Vec::new()), ..p() };
     let light = Case { light: Some(LIGHT), ..p() };
     let toned = Case { gain: Some(small_gain(Some(Vec::new()))), ..p() };
+    let lit_and_toned = Case { light: Some(LIGHT), ..toned.clone() };
     vec![
         trial("(a)", p(), Ok(556), vec![after(b"mdat", &[0xAA, 0xBB])]),
         Trial { room: 555, ..trial("(b)", p(), Err(6), vec![]) },
@@ -65,6 +93,36 @@ fn trials() -> Vec<Trial> {
                 infe(1, 6, b"mime"),
                 infe(0, 7, b"tmap"),
                 after(b"altr", &[0, 0, 0, 0, 0, 0, 0, 8, 0, 0, 0, 2, 0, 0, 0, 7, 0, 0, 0, 2]),
+            ],
+        ),
+        trial(
+            "a visible size",
+            odd(p()),
+            Ok(556 + 40 + 2),
+            vec![
+                after(b"ispe", &[0, 0, 0, 0, 0, 0, 0, 64, 0, 0, 0, 66]),
+                [&odd_clap(), &[0, 0, 0, 41][..], b"ipma"].concat(),
+                vec![0, 1, 4, 0x81, 0x82, 0x84, 0x89, 0, 2, 3, 3, 0x84, 5, 0, 3, 3, 0x86, 0x82, 0x89, 0, 4, 3, 3, 7, 8],
+            ],
+        ),
+        trial(
+            "a visible size that takes one column off and five rows",
+            shown(p(), 63, 61),
+            Ok(556 + 40 + 2),
+            vec![
+                after(b"ispe", &[0, 0, 0, 0, 0, 0, 0, 64, 0, 0, 0, 66]),
+                CLAP_63_61.concat(),
+                after(b"idat", &[0, 0, 0, 0, 0, 63, 0, 61]),
+            ],
+        ),
+        trial(
+            "a visible size between a light level and a gain map",
+            odd(lit_and_toned),
+            Ok(556 + 13 + 243 + 3 + 134 + 40 + 2),
+            vec![
+                [&after(b"clli", &[0x03, 0xE8, 0x01, 0x90]), &odd_clap()[..], &[0, 0, 0, 10], b"hvcC"].concat(),
+                vec![0, 1, 4, 0x81, 0x82, 0x84, 0x8A, 0, 2, 4, 3, 0x84, 5, 9, 0, 3, 3, 0x86, 0x82, 0x8A],
+                vec![0, 5, 5, 0x8B, 12, 13, 14, 15, 0, 7, 2, 16, 17],
             ],
         ),
     ]

@@ -66,7 +66,7 @@ pub fn split<'a>(lengths: &[u32], bytes: &'a [u8]) -> Vec<&'a [u8]> {
     samples
 }
 
-/// The panel for upstream's function.
+/// The panel for upstream's function, whose tiles have no visible size.
 pub fn panel(case: &Case) -> oracle::Panel<'_> {
     oracle::Panel {
         cols: case.dims.cols,

@@ -1,5 +1,6 @@
 //! Upstream's `wrap_hevc_grid_with_alpha` (awxkee/hpvca), built from its own source with its records and samples handed
-//! in. This is what the writer is compared with and timed against.
+//! in. This is what the writer is compared with and timed against. Upstream's `write_clap`, which that function does
+//! not call, is there beside it.
 //!
 //! build.rs puts the source together; this file stands in for what upstream's crate has around it.
 
@@ -106,6 +107,14 @@ impl Prepared {
         isobmff::wrap_hevc_grid_with_alpha(&self.color_tiles, &self.alpha_tiles, self.dims, img)
             .map_err(|e| e.to_string())
     }
+}
+
+/// Upstream's clap box, for a picture of this decoded size of which this visible size is shown: each a width and a
+/// height of at most 2³¹ - 1, since upstream subtracts in 32 bits with a sign.
+pub fn clap(decoded: (u32, u32), visible: (u32, u32)) -> Vec<u8> {
+    let mut bytes = Vec::new();
+    isobmff::write_clap(&mut bytes, decoded, visible);
+    bytes
 }
 
 /// What upstream makes of a panel: its file, its error, or where it panics.
