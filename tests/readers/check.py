@@ -11,6 +11,7 @@ import tempfile
 
 import panels  # before all else: it says where the example's modules are
 import compare
+import expected
 import library
 import programs
 import wide
@@ -18,7 +19,7 @@ from parts import cards, hevc, sheet
 
 sys.path.insert(0, str(panels.ROOT / "tools"))
 
-from heif import boxes, items  # noqa: E402
+from heif import boxes, check, fold, items, views  # noqa: E402
 
 MADE_WITH = ("3.5", "4.1", "4.2")  # the versions of x265 that are known to make the sheets in examples/
 
@@ -29,6 +30,8 @@ def write(writer, every, room):
     for each in every:
         data = sheet.sheet(dataclasses.replace(each.panel, full=covered(each.panel)))
         (room / f"{each.name}.sheet").write_bytes(data)
+        # A sheet can't say what is seen of a tile.
+        command += ["--visible", "{}x{}".format(*each.visible)] if each.visible else []
         command += [room / f"{each.name}.sheet", room / f"{each.name}.heic"]
     subprocess.run(command, check=True)
     files = {room / f"{each.name}.heic": each for each in every}
@@ -84,6 +87,42 @@ def check_payloads(tally, files):
             tally.hold("tools/show", meant.name, "tone map the same", payloads["tmap"] == gain.tone_map)
 
 
+def check_views(tally, files):
+    """tools/show finds of each tile the part that is to be seen."""
+    for path, meant in files.items():
+        if meant.visible is None:
+            continue
+        data = path.read_bytes()
+        contents = items.contents(data, boxes.read(data))
+        grids = [item.number for item in contents.items.values() if item.kind == "grid"]
+        seen = [views.view(data, contents, contents.items[tile]) for grid in grids for tile in contents.targets(grid, "dimg")]
+        tally.hold("tools/show", meant.name, "tiles cut as meant", {view.size for view in seen} == {meant.visible})
+
+
+def check_findings(tally, files):
+    """`tools/show --check` finds in each file what docs/DIFFERENCES.md has of it and nothing else, and one fault more where the
+    tiles' ispe is put a pixel off what x265 was asked for, in colour and alpha."""
+    known = {"S2": ["an extent of length 0"], "D12": ["tiles of 64 × 64 cover"]}
+    for path, meant in files.items():
+        data, panel = path.read_bytes(), meant.panel
+        found = check.findings(data, items.contents(data, boxes.read(data)))
+        wanted = known.get(meant.difference, [])
+        holds = len(found) == len(wanted) and all(part in said for part, said in zip(wanted, found))
+        tally.hold("tools/show", meant.name, "no fault but those known", holds, "is not so: " + "; ".join(found))
+        tiles = panel.cols * panel.rows
+        coded = fold.named("item", [*range(1, tiles + 1), *range(tiles + 2, 2 * tiles + 2)])
+        for off in ((1, 0), (0, 1), (-1, -1)):
+            stated = tuple(map(sum, zip(panel.tile, off)))
+            faulty = _replaced(data, _ispe(panel.tile), _ispe(stated), 1)
+            said = f"{coded}, hvc1: ispe says {views.by(stated)} pixels, and the parameter sets {views.by(panel.tile)}"
+            seen = faulty is not None and said in check.findings(faulty, items.contents(faulty, boxes.read(faulty)))
+            tally.hold("tools/show", meant.name, "wrong tile sizes found", seen, f"is not so of {views.by(stated)}")
+
+
+def _ispe(size):
+    return b"ispe" + bytes(4) + b"".join(side.to_bytes(4, "big") for side in size)
+
+
 def check_readers(tally, files):
     """Each reader on each file; the versions of the readers."""
     convert, magick, info, exiftool = programs.HeifConvert(), programs.Magick(), programs.HeifInfo(), programs.Exiftool()
@@ -128,6 +167,17 @@ def check_offset(tally, files, room):
             tally.count("exiftool", "as D11 says")
 
 
+def check_expected(tally):
+    """Each version that an entry lists is held to what is known of it, and one that it does not list is told of and fails nothing."""
+    other = "something else"
+    for entry, known in expected.LIBHEIF.items():
+        judged = [expected.judge(entry, version, behaviour) for version, all_known in known.items() for behaviour in all_known]
+        failing = [expected.judge(entry, version, other) for version in known]
+        told = expected.judge(entry, "0.0.1", other)
+        if any(judged) or not all(each and each[0] for each in failing) or told is None or told[0] or "0.0.1" not in told[1]:
+            tally.fail("expected", entry, f"versions are not held to what is known of them: {judged} {failing} {told}")
+
+
 def check_comparison(tally, writer, cache, room):
     """The comparison sees what it should: with two alpha tiles, or two colour tiles, exchanged a file does not pass."""
     convert, itself = programs.HeifConvert(), library.Library()
@@ -146,6 +196,43 @@ def check_comparison(tally, writer, cache, room):
                 tally.fail(reader.name, meant.name, "the exchange of two tiles is not seen")
 
 
+def check_cuts(tally, writer, files, room):
+    """The comparison sees tiles that are not cut, that are cut in another place, and that are cut in the colour alone."""
+    cut, meant = next((path.read_bytes(), meant) for path, meant in files.items() if meant.name == "odd-rgb-8")
+    meant = dataclasses.replace(meant, name="cut")
+    (path,) = write(writer, [dataclasses.replace(meant, visible=None)], room)
+    whole = path.read_bytes()
+    of_alpha = b"\3\x86\x82\x89"  # three properties of an alpha tile: its record, its size, clap; here its size once more instead
+    neither = "neither as meant nor with all that its tiles have"
+    for what, faulty, wanted in (
+        ("not cut", whole, expected.UNCUT),
+        ("cut on the left", _replaced(cut, _clap(-1), _clap(1), 1), neither),
+        ("cut in the colour alone", _replaced(cut, of_alpha, of_alpha[:3] + b"\2", panels.COLS * panels.ROWS), neither),
+    ):
+        if faulty is None:
+            tally.fail("tools/show", meant.name, f"clap does not stand where it should: no file has tiles that are {what}")
+            continue
+        path.write_bytes(faulty)
+        for reader in (programs.HeifConvert(), library.Library()):
+            found = compare.Tally()
+            with tempfile.TemporaryDirectory() as inner:
+                compare.decoded(found, reader, path, meant, pathlib.Path(inner))
+            said = found.failures + found.reports
+            if len(said) != 1 or wanted not in said[0]:
+                tally.fail(reader.name, meant.name, f"tiles that are {what} give: {'; '.join(said) or 'no failure'}")
+
+
+def _clap(right):
+    """A clap of the size that is seen, so many half pixels to the right of the middle and half a pixel up."""
+    width, height = panels.ODD
+    return b"clap" + b"".join(number.to_bytes(4, "big", signed=True) for number in (width, 1, height, 1, right, 2, -1, 2))
+
+
+def _replaced(data, old, new, count):
+    """The data with each of so many places changed, or None if there are more or fewer."""
+    return data.replace(old, new) if data.count(old) == count else None
+
+
 def main(writer, cache):
     tally = compare.Tally()
     with tempfile.TemporaryDirectory() as name:
@@ -154,10 +241,14 @@ def main(writer, cache):
         files = write(writer, every, room)
         versions = check_readers(tally, files)
         check_payloads(tally, files)
+        check_views(tally, files)
+        check_findings(tally, files)
         check_offset(tally, files, room)
         check_comparison(tally, writer, cache, room)
+        check_cuts(tally, writer, files, room)
         wide.check(tally, writer, cache, room)
     check_examples(tally)
+    check_expected(tally)
     for reader, counts in tally.counts.items():
         found = ", ".join(f"{what} {count}" for what, count in counts.items())
         version = f" {versions[reader]}" if reader in versions else ""

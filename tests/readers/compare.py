@@ -58,6 +58,8 @@ def decoded(tally, reader, file, meant, room):
         tally.note(reader, meant.name, meant.difference, expected.SHOWN)
     elif meant.difference == "S1":
         _mirrored(tally, reader, meant, seen)
+    elif meant.difference == "S12":
+        _of_cut_tiles(tally, reader, meant, seen)
     elif two_depths:
         _of_two_depths(tally, reader, meant, seen)
     else:
@@ -72,6 +74,26 @@ def _mirrored(tally, reader, meant, seen):
             tally.note(reader, meant.name, meant.difference, behaviour)
             return
     tally.fail(reader.name, meant.name, "neither as meant nor as the other mirrored orientation of its pair")
+
+
+def _of_cut_tiles(tally, reader, meant, seen):
+    """Tiles of which a part is to be seen are shown as meant, everything else with them, or whole, a few pixels further apart."""
+    shown = [_shows(*pictures, seen, _allowed(reader, meant)) for pictures in ((meant.colour, meant.alpha), meant.uncut)]
+    if all(shown):  # of a reader that halves the chroma
+        shown = _nearer(seen.colour, meant.colour, meant.uncut[0])
+    if shown[0]:
+        tally.note(reader, meant.name, meant.difference, expected.AS_MEANT)
+        _pictures(tally, reader, meant, seen)
+    elif shown[1]:
+        tally.note(reader, meant.name, meant.difference, expected.UNCUT)
+    else:
+        tally.fail(reader.name, meant.name, "neither as meant nor with all that its tiles have")
+
+
+def _nearer(seen, *pictures):
+    """Of each picture whether it is the nearest."""
+    off = [pixels.distance(seen.at_depth(picture.depth), picture)[0] for picture in pictures]
+    return [each == min(off) for each in off]
 
 
 def _of_two_depths(tally, reader, meant, seen):
@@ -175,6 +197,11 @@ def tagged(tally, tags, depths, meant):
     tally.hold("exiftool", name, "depths stated", depths == stated, f"are not {stated}, but {depths}")
     warnings = [w for w in _list(tags.get("Warning")) + _list(tags.get("Error")) if w not in expected.EXIFTOOL_WARNINGS]
     tally.hold("exiftool", name, "valid", not warnings, f"is not what it says: {'; '.join(warnings)}")
+    if meant.visible is not None:
+        # The middle of what is seen lies to the left and up, by half of what is cut away.
+        middle = ((seen - coded) / 2 for seen, coded in zip(meant.visible, panel.tile))
+        clap, given = " ".join(map(str, (*meant.visible, *middle))), tags.get("CleanAperture")
+        tally.hold("exiftool", name, "clap the same", given == clap, f"is not so: {given}, not {clap}")
     if panel.icc is not None:
         tally.hold("exiftool", name, "ICC the same", tags.get("ICC_Profile") == panel.icc)
     if panel.exif is not None:

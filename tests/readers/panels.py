@@ -13,6 +13,7 @@ import pixels  # noqa: E402
 
 COLS, ROWS, TILE = 3, 2, 64
 WHOLE, CROPPED = (192, 128), (180, 100)
+ODD, ODD_WHOLE, ODD_CROPPED = (63, 65), (189, 130), (180, 121)  # what is seen of each tile, and of all of them
 GAIN_SIZE = (96, 64)
 HEADROOM = 4.0
 
@@ -43,11 +44,22 @@ class Case:
     gain_depth: int | None = None
     toned: bool = False
     full: tuple = WHOLE
+    visible: tuple | None = None  # what is seen of each tile, where that is not all of it
     empty_sample: bool = False
     difference: str | None = None
 
     def __post_init__(self):
         self.alpha_depth = self.alpha_depth or self.depth
+
+    @property
+    def step(self):
+        """Width and height by which tiles stand apart."""
+        return self.visible or (TILE, TILE)
+
+    @property
+    def tile(self):
+        """Width and height of a tile as it is coded: even, as an encoder wants them for 4:2:0."""
+        return tuple(side + side % 2 for side in self.step)
 
 
 def cases():
@@ -73,7 +85,11 @@ def cases():
         Case("cropped", full=CROPPED),
         Case("empty-sample", empty_sample=True, difference="S2"),
         Case("uncovered", full=(200, 128), difference="D12"),
-    ]
+        Case("odd-rgb-8", visible=ODD, full=ODD_WHOLE, difference="S12"),
+        Case("odd-yuv420-8", csp="i420", cicp=YCC, visible=ODD, full=ODD_WHOLE, difference="S12"),
+        Case("odd-everything", depth=10, icc=PROFILE, orientation="Rotate90", light=(203, 96), exif=EXIF, gain_depth=10, toned=True,
+             visible=ODD, full=ODD_CROPPED, difference="S12"),
+    ]  # fmt: skip
     for turn in sheet.ORIENTATIONS:
         mirrored = "S1" if turn in ("FlipH", "FlipV", "Transpose", "Transverse") else None
         plain.append(Case(f"turned-{turn}", full=CROPPED, orientation=turn, difference=mirrored))
@@ -84,29 +100,37 @@ def _fill(width, height, value):
     return [[value(x, y) for x in range(width)] for y in range(height)]
 
 
-def colour_planes(case):
-    """The coded planes: with an identity matrix all values and every neighbourhood, else smooth, so that readers which
-    blend chroma differently come out near one another. Colour that the file leaves open is grey."""
-    width, height = COLS * TILE, ROWS * TILE
+def colour_values(case):
+    """What each coded plane has at a place of the picture: with an identity matrix all values and every neighbourhood, else smooth
+    chroma, so that readers which blend it differently come out near one another. Colour that the file leaves open is grey."""
+    width, height = COLS * case.step[0], ROWS * case.step[1]
     top = (1 << case.depth) - 1
     if case.cicp == RGB:
         return [
-            _fill(width, height, lambda x, y: y * top // (height - 1)),
-            _fill(width, height, lambda x, y: (x * 7 + y * 13 + (x * y >> 3)) * 5 & top),
-            _fill(width, height, lambda x, y: x * top // (width - 1)),
+            lambda x, y: y * top // (height - 1),
+            lambda x, y: (x * 7 + y * 13 + (x * y >> 3)) * 5 & top,
+            lambda x, y: x * top // (width - 1),
         ]
-    half = 2 if case.csp == "i420" else 1
     reach = 0 if case.cicp is None else 0.18
-    luma = _fill(width, height, lambda x, y: round(top * (0.3 + 0.4 * (x + 2 * y) / (width + 2 * height))))
     middle = 1 << case.depth - 1
-    cb = _fill(width // half, height // half, lambda x, y: round(middle + reach * middle * (2 * half * x / width - 1)))
-    cr = _fill(width // half, height // half, lambda x, y: round(middle - reach * middle * (2 * half * y / height - 1)))
-    return [luma, cb, cr]
+    light, most = _light(case, width, height)
+    return [
+        lambda x, y: round(top * (0.3 + 0.4 * light(x, y) / most)),
+        lambda x, y: round(middle + reach * middle * (2 * x / width - 1)),
+        lambda x, y: round(middle - reach * middle * (2 * y / height - 1)),
+    ]
 
 
-def alpha_plane(case):
+def _light(case, width, height):
+    """The light at a place, and the most that there is: smooth, too, but where tiles are cut, so that a column too many is seen."""
+    if case.visible is None:
+        return lambda x, y: x + 2 * y, width + 2 * height
+    return lambda x, y: (x * 7 + y * 13) % 61, 60
+
+
+def alpha_value(case):
     top = (1 << case.alpha_depth) - 1
-    return _fill(COLS * TILE, ROWS * TILE, lambda x, y: (x * 3 + y * 5) * (1 + top) // 1024 & top)
+    return lambda x, y: (x * 3 + y * 5) * (1 + top) // 1024 & top
 
 
 def gain_plane(case):
@@ -114,37 +138,52 @@ def gain_plane(case):
     return _fill(*GAIN_SIZE, lambda x, y: (x * 11 + y * 29) % (top + 1))
 
 
-def _raw(values, depth):
+def _tiles(case, values, half=1):
+    """The coded planes of each tile, row by row; `half` is how many pixels of a line share a value of chroma."""
+    return [_tile(case, values, half, row, col) for row in range(ROWS) for col in range(COLS)]
+
+
+def _tile(case, values, half, row, col):
+    """Behind what is seen of a tile its last column and its last row are repeated. A value of chroma is that of the first of its pixels."""
+    (width, height), (across, down) = case.tile, case.step
+
+    def plane(value, side):
+        return _fill(
+            width // side,
+            height // side,
+            lambda x, y: value(col * across + min(x * side, across - 1), row * down + min(y * side, down - 1)),
+        )
+
+    return [plane(value, side) for value, side in zip(values, (1, half, half))]
+
+
+def colour_tiles(case):
+    return _tiles(case, colour_values(case), 2 if case.csp == "i420" else 1)
+
+
+def alpha_tiles(case):
+    return _tiles(case, [alpha_value(case)])
+
+
+def _raw(planes, depth):
+    values = [value for plane in planes for row in plane for value in row]
     return b"".join(value.to_bytes(1 if depth == 8 else 2, "little") for value in values)
-
-
-def _tiles(planes, depth):
-    tiles = []
-    for row in range(ROWS):
-        for col in range(COLS):
-            values = []
-            for plane in planes:
-                side = TILE * len(plane) // len(planes[0])
-                for line in plane[row * side : (row + 1) * side]:
-                    values += line[col * side : (col + 1) * side]
-            tiles.append(_raw(values, depth))
-    return tiles
 
 
 def panel(case, cache):
     """The case as a panel, with its pictures coded."""
     # Where the file says nothing of the range, as beside an ICC profile alone, a reader takes what the stream says.
     exact = ("--lossless", "--range", "limited" if case.cicp == VIDEO else "full")
-    colour_tiles = _tiles(colour_planes(case), case.depth)
-    alpha_tiles = _tiles([alpha_plane(case)], case.alpha_depth)
-    color_record, color = hevc.code_tiles(colour_tiles, TILE, TILE, case.csp, case.depth, exact, cache)
-    alpha_record, alpha = hevc.code_tiles(alpha_tiles, TILE, TILE, "i400", case.alpha_depth, exact, cache)
+    colour_raw = [_raw(planes, case.depth) for planes in colour_tiles(case)]
+    alpha_raw = [_raw(planes, case.alpha_depth) for planes in alpha_tiles(case)]
+    color_record, color = hevc.code_tiles(colour_raw, *case.tile, case.csp, case.depth, exact, cache)
+    alpha_record, alpha = hevc.code_tiles(alpha_raw, *case.tile, "i400", case.alpha_depth, exact, cache)
     if case.empty_sample:
         color[-1] = b""
     return sheet.Panel(
         cols=COLS,
         rows=ROWS,
-        tile=(TILE, TILE),
+        tile=case.tile,
         full=case.full,
         depth=case.depth,
         alpha_depth=case.alpha_depth,
@@ -162,7 +201,7 @@ def panel(case, cache):
 
 
 def _gain(case, cache):
-    raw = _raw([value for row in gain_plane(case) for value in row], case.gain_depth)
+    raw = _raw([gain_plane(case)], case.gain_depth)
     record, (sample,) = hevc.code_tiles([raw], *GAIN_SIZE, "i400", case.gain_depth, cache=cache)
     toned = {"tone_map": gain.tone_map(HEADROOM), "alternate_cicp": (1, 16, 1, True)} if case.toned else {}
     return sheet.Gain(record, sample, *GAIN_SIZE, case.gain_depth, UNSPECIFIED, gain.xmp(HEADROOM), **toned)
@@ -179,6 +218,8 @@ class Meant:
     gain: pixels.Picture | None
     coding: str  # "exact": colour comes back as coded; "near": after a matrix; "lossy": as near as the coder left it
     difference: str | None = None
+    visible: tuple | None = None
+    uncut: tuple | None = None  # colour and alpha as a reader shows them that cuts nothing away of the tiles
 
     def size(self):
         """Width and height as shown."""
@@ -188,16 +229,18 @@ class Meant:
 
 def meant(case, cache):
     """The case's panel, and what a reader should show of it."""
-    colour, alpha = picture(case)
     turn = pixels.TURNS[case.orientation or "Normal"]
+    colour, alpha = (each.map(turn) for each in picture(case, case.step))
     return Meant(
         case.name,
         panel(case, cache),
-        colour.map(turn),
-        alpha.map(turn),
+        colour,
+        alpha,
         gain_picture(case).map(turn) if case.gain_depth else None,
         "exact" if case.cicp == RGB else "near",
         case.difference,
+        case.visible,
+        tuple(each.map(turn) for each in picture(case, case.tile)) if case.visible else None,
     )
 
 
@@ -219,12 +262,12 @@ def tiff_header_offset(exif):
     return len(MARKER) if exif.startswith(MARKER) else 0
 
 
-def picture(case):
-    """The colour and the alpha before they are turned."""
+def picture(case, step):
+    """The colour and the alpha before they are turned: so much of each tile, side by side, and of that the panel's full size."""
     cicp = case.cicp or YCC  # grey is grey under any matrix
-    colour = pixels.rgb(colour_planes(case), case.depth, cicp).cropped(*case.full)
-    alpha = pixels.Picture(COLS * TILE, ROWS * TILE, case.alpha_depth, [alpha_plane(case)]).cropped(*case.full)
-    return colour, alpha
+    colour = [pixels.rgb(planes, case.depth, cicp) for planes in colour_tiles(case)]
+    alpha = [pixels.Picture(*case.tile, case.alpha_depth, planes) for planes in alpha_tiles(case)]
+    return tuple(pixels.joined([tile.cropped(*step) for tile in tiles], COLS).cropped(*case.full) for tiles in (colour, alpha))
 
 
 def gain_picture(case):

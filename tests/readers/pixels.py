@@ -83,6 +83,19 @@ def rgb(planes, depth, cicp):
     return Picture(len(luma[0]), len(luma), depth, [red, green, blue])
 
 
+def joined(tiles, cols):
+    """The picture of tiles of one size, row by row, with so many in a row."""
+    channels = [
+        [
+            [value for tile in tiles[first : first + cols] for value in tile.channels[channel][y]]
+            for first in range(0, len(tiles), cols)
+            for y in range(tiles[0].height)
+        ]
+        for channel in range(len(tiles[0].channels))
+    ]
+    return Picture(tiles[0].width * cols, tiles[0].height * (len(tiles) // cols), tiles[0].depth, channels)
+
+
 def distance(one, other):
     """The mean and the largest difference of two pictures of one size, in parts of the full range."""
     total = most = count = 0

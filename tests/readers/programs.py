@@ -168,7 +168,7 @@ class Exiftool:
 
     def read(self, files):
         """For each file its tags, by name; binary ones as bytes."""
-        wanted = ["-validate", "-warning", "-error", "-ImageSize", "-ICC_Profile", "-XMP", "-Exif", "-HDRGainMapHeadroom"]
+        wanted = ["-validate", "-warning", "-error", "-ImageSize", "-ICC_Profile", "-XMP", "-Exif", "-HDRGainMapHeadroom", "-CleanAperture"]
         wanted += ["-DocumentName", "-Make", "-DateTimeOriginal"]
         done, said = _run([self.command, "-json", "-binary", "-a", *wanted, *files])
         if not done.stdout:

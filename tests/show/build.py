@@ -27,12 +27,45 @@ def unit(kind, length=4):
     return be(length, 4) + be(kind << 1, 1) + b"\1" + bytes(length - 2)
 
 
-def record(chroma=1, luma=8, chroma_depth=8, version=1, length_size=4, sets=(VPS, SPS, PPS)):
-    """A decoder configuration record with parameter sets of four bytes."""
+def golomb(value):
+    """A number in Exp-Golomb code, as bits."""
+    code = f"{value + 1:b}"
+    return "0" * (len(code) - 1) + code
+
+
+def sps(width, height, chroma=1, window=None, sub_layers=(), header=b"\x42\1", number=0):
+    """An SPS of a coded picture, up to its conformance window: what that cuts off left, right, above and below, in its own steps. Of
+    each sub-layer below the highest it is given whether its profile and whether its level is there."""
+    profile = "00000001" + "011" + "0" * 29 + "1001" + "0" * 44  # Main, the profiles it is compatible with, and constraints
+    level = f"{93:08b}"
+    bits = f"0000{len(sub_layers):03b}1{profile}{level}"
+    bits += "".join(f"{first:b}{second:b}" for first, second in sub_layers)
+    bits += "00" * (8 - len(sub_layers)) if sub_layers else ""
+    bits += "".join(profile * first + level * second for first, second in sub_layers)
+    bits += golomb(number) + golomb(chroma) + ("0" if chroma == 3 else "") + golomb(width) + golomb(height)
+    bits += "1" + "".join(map(golomb, window)) if window else "0"
+    bits += "1" * (-len(bits) % 8)
+    return header + guarded(bytes(int(bits[at : at + 8], 2) for at in range(0, len(bits), 8)))
+
+
+def guarded(data):
+    """Bytes as they stand in a NAL unit: where two zeros and then one of 0 to 3 would, a 3 is put between."""
+    made = bytearray()
+    for byte in data:
+        if made[-2:] == b"\0\0" and byte <= 3:
+            made.append(3)
+        made.append(byte)
+    return bytes(made)
+
+
+def record(chroma=1, luma=8, chroma_depth=8, version=1, length_size=4, sets=(VPS, SPS, PPS), sps=()):
+    """A decoder configuration record with parameter sets of four bytes, or with these SPS in the place of its own."""
     head = be(version, 1) + b"\1" + bytes(11) + b"\xf0\0\xfc"
     head += be(0xFC | chroma, 1) + be(0xF8 | luma - 8, 1) + be(0xF8 | chroma_depth - 8, 1) + bytes(2)
     head += be(0x0C | length_size - 1, 1) + be(len(sets), 1)
-    return head + b"".join(be(0x80 | kind, 1) + b"\0\1\0\4" + bytes(4) for kind in sets)
+    units = {kind: sps if kind == SPS and sps else [bytes(4)] for kind in sets}
+    each = [be(0x80 | kind, 1) + be(len(given), 2) + b"".join(be(len(unit), 2) + unit for unit in given) for kind, given in units.items()]
+    return head + b"".join(each)
 
 
 def ispe(width, height):
@@ -41,6 +74,11 @@ def ispe(width, height):
 
 def pixi(*depths):
     return full("pixi", 0, 0, be(len(depths), 1), *(be(depth, 1) for depth in depths))
+
+
+def clap(*fractions):
+    """A clean aperture: the fractions of its width and height, and of how far its centre lies to the right and down."""
+    return box("clap", *(be(number % 2**32, 4) for fraction in fractions for number in fraction))
 
 
 def grid(rows, columns, width, height, flags=0):

@@ -6,10 +6,12 @@ import pathlib
 import subprocess
 import tempfile
 
+import cuts
 import damage
 import faults
 import folding
 import metadata
+import sizes
 from common import ROOT, fail, read, run, shown, vectors
 
 # Offset and size of each box of P's file, as the specification lists them.
@@ -85,7 +87,7 @@ def main():
         check_picture(path)
         check_usage(path)
         check_streams(path)
-    said = [module.check_all() for module in (folding, metadata, faults, damage)]
+    said = [module.check_all() for module in (folding, metadata, cuts, sizes, faults, damage)]
     print(f"show: P's boxes lie where the specification has them; {len(files)} files are read; {'; '.join(said)}")
 
 

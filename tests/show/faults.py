@@ -1,7 +1,7 @@
 """Each fault that `--check` finds, planted alone in a good file, with the sentences that are due: these and no others."""
 
 import build
-from build import PPS, SLICE, SPS, VPS, Item, be, box, exif, good, grid, ispe, pixi, record, unit
+from build import PPS, SLICE, SPS, VPS, Item, be, box, clap, exif, good, grid, ispe, pixi, record, sps, unit
 from common import ROOT, fail, read, shown, vectors
 
 ANNEX_B = "which is Annex B: HEIF wants each NAL unit behind its length in 4 bytes"
@@ -36,6 +36,50 @@ def property_at(position, data):
 
     def plant(file):
         file.properties[position - 1] = data
+
+    return plant
+
+
+def cut(*fractions, tiles=(1, 2, 4, 5), listed=lambda own: [*own, -9], full=None):
+    """Plants a clap, as property 9, for these tiles, and a size that what it leaves of them covers, if that is another."""
+
+    def plant(made):
+        made.properties.append(clap(*fractions))
+        for number in tiles:
+            made.items[number].properties = listed(made.items[number].properties)
+        if full:
+            made.properties[2] = ispe(*full)
+            made.items[3].payload = made.items[6].payload = grid(1, 2, *full)
+
+    return plant
+
+
+def turned(behind):
+    """Plants a quarter turn of the colour's grid, as property 10, named before its clap or behind it."""
+
+    def plant(made):
+        made.properties.append(box("irot", b"\1"))
+        properties = made.items[3].properties
+        properties.insert(len(properties) - (not behind), -10)
+
+    return plant
+
+
+def coded(colour, alpha, chroma=1):
+    """Plants records with these SPS."""
+
+    def plant(made):
+        made.properties[0], made.properties[5] = box("hvcC", record(chroma, sps=[colour])), box("hvcC", record(0, sps=[alpha]))
+
+    return plant
+
+
+def stated(tile, full):
+    """Plants the size that is stated of every tile, and the grids'."""
+
+    def plant(made):
+        made.properties[1], made.properties[2] = ispe(*tile), ispe(*full)
+        made.items[3].payload = made.items[6].payload = grid(1, 2, *full)
 
     return plant
 
@@ -128,6 +172,102 @@ GRIDS = [
      ["item 3, grid: the tiles are not of one size: item 1 64 × 64; item 2 32 × 64"]),
 ]  # fmt: skip
 
+ODD = (63, 1), (61, 1), (-1, 2), (-3, 2)  # the first 63 columns and 61 rows of 64 × 64
+LEFT = "it leaves columns {} and rows {} of 64 × 64"
+TILES = "items 1, 2, 4, 5, hvc1"
+UNCOVERED = "items 3, 6, grid: 2 × 1 tiles of 63 × 61, as clap leaves them, cover 126 × 61 pixels, and the grid has {}"
+CUTS = [
+    (cut(*ODD, full=(126, 61)), []),
+    (cut(*ODD, full=(127, 61)), [UNCOVERED.format("127 × 61")]),
+    (cut(*ODD, full=(126, 62)), [UNCOVERED.format("126 × 62")]),
+    (cut(*ODD), [UNCOVERED.format("128 × 64")]),  # which their ispe would cover
+    (cut((64, 1), (64, 1), (0, 1), (0, 1)), []),
+    (cut((126, 2), (61, 1), (-3, 6), (-3, 2), full=(126, 61)), []),
+    (cut((62, 1), (60, 1), (0, 1), (0, 1), full=(124, 60)), []),
+    (cut((63, 1), (61, 1), (1, 2), (3, 2), full=(126, 61)), []),
+    (cut((63, 0), (61, 1), (-1, 2), (-3, 2)), [f"property 9, clap: a denominator of 0, of the width, which libheif refuses"]),
+    (cut((63, 1), (61, 1), (-1, 0), (-3, 0)),
+     [f"property 9, clap: a denominator of 0, of the horizontal offset and the vertical offset, which libheif refuses"]),
+    (cut((0, 1), (0, 1), (-1, 2), (-3, 2)), [f"property 9, clap: a width and a height of 0, which libheif refuses"]),
+    (cut((63, 1), (0, 1), (-1, 2), (-3, 2)), [f"property 9, clap: a height of 0, which libheif refuses"]),
+    (cut((63, 1), (61, 1), (0, 1), (-3, 2)),
+     [f"{TILES}: clap does not cut between pixels: {LEFT.format('1/2 to 125/2', '0 to 60')}"]),
+    (cut((63, 1), (61, 1), (0, 1), (-3, 2), full=(129, 64)),  # what it covers is open then
+     [f"{TILES}: clap does not cut between pixels: {LEFT.format('1/2 to 125/2', '0 to 60')}"]),
+    (cut((63, 1), (61, 1), (-1, 2), (-3, 1)),
+     [f"{TILES}: clap does not cut between pixels: {LEFT.format('0 to 62', '-3/2 to 117/2')}"]),
+    (cut((127, 2), (61, 1), (-1, 4), (-3, 2)),
+     [f"{TILES}: clap does not cut between pixels: {LEFT.format('0 to 125/2', '0 to 60')}"]),
+    (cut((63, 1), (61, 1), (-3, 2), (-3, 2)),
+     [f"{TILES}: clap goes beyond the picture: {LEFT.format('-1 to 61', '0 to 60')}"]),
+    (cut((63, 1), (61, 1), (-1, 2), (5, 2)), [f"{TILES}: clap goes beyond the picture: {LEFT.format('0 to 62', '4 to 64')}"]),
+    (cut((65, 1), (61, 1), (1, 2), (-3, 2)), [f"{TILES}: clap goes beyond the picture: {LEFT.format('0 to 64', '0 to 60')}"]),
+    (cut((64, 1), (61, 1), (2**31, 2), (-3, 2), tiles=(1,)),  # of an offset's numbers the lowest
+     [f"item 1, hvc1: clap goes beyond the picture: {LEFT.format('-1073741824 to -1073741761', '0 to 60')}"]),
+    (cut((2**32 - 2, 1), (61, 1), (-1, 1), (-3, 2), tiles=(1,)),  # of a width's numbers the highest but one
+     [f"item 1, hvc1: clap goes beyond the picture: {LEFT.format('-2147483616 to 2147483677', '0 to 60')}"]),
+    (cut(*ODD, full=(126, 61), listed=lambda own: [*own, 9]),
+     [f"{TILES}: clap is not marked as essential: a reader that does not know it shows what it cuts away"]),
+    (cut(*ODD, full=(126, 61), tiles=(1, 2), listed=lambda own: [own[0], -9, *own[1:]]),
+     ["items 1, 2, hvc1: clap is named before ispe, colr: what changes a picture stands behind what describes it"]),
+    (cut(*ODD, tiles=(1, 2), listed=lambda own: [own[0], own[1], -9, own[2]], full=(126, 61)),
+     ["items 1, 2, hvc1: clap is named before colr: what changes a picture stands behind what describes it"]),
+    (cut(*ODD, tiles=(1,)), ["item 3, grid: the tiles, as clap leaves them, are not of one size: item 1 63 × 61; item 2 64 × 64"]),
+    (cut((127, 1), (63, 1), (-1, 2), (-1, 2), tiles=(3,)), []),
+    (also(cut((127, 1), (63, 1), (-1, 2), (-1, 2), tiles=(3,)), turned(behind=True)), []),  # cut, then turned
+    (also(cut((63, 1), (127, 1), (-1, 2), (-1, 2), tiles=(3,)), turned(behind=False)), []),  # turned, then cut
+    (also(cut((127, 1), (63, 1), (-1, 2), (-1, 2), tiles=(3,)), turned(behind=False)),
+     ["item 3, grid: clap goes beyond the picture: it leaves columns -32 to 94 and rows 32 to 94 of 64 × 128"]),
+]  # fmt: skip
+
+def in_band(unit):
+    """A sample with a parameter set of its own."""
+    return be(len(unit), 4) + unit + build.unit(SLICE)
+
+
+SAYS = "ispe says {} pixels, and the parameter sets {}"
+SQUARE = coded(sps(64, 64), sps(64, 64, 0))
+PADDED = coded(sps(64, 72, 1, (0, 0, 0, 3)), sps(64, 72, 0, (0, 0, 0, 6)))  # to 64 × 66, where 63 × 65 are to be seen
+ONE = coded(sps(80, 64), sps(64, 64, 0))  # of which the alpha's is right
+SIZES = [
+    (SQUARE, []),
+    (also(SQUARE, item(2, properties=[-1, -3, -4])),
+     [f"item 2, hvc1: {SAYS.format('128 × 64', '64 × 64')}",
+      "item 3, grid: the tiles are not of one size: item 1 64 × 64; item 2 128 × 64"]),
+    (also(PADDED, stated((64, 66), (128, 66))), []),
+    (also(PADDED, stated((64, 66), (126, 65))), []),  # so it is with even tiles, of which the grid cuts a part off
+    (also(PADDED, stated((64, 66), (126, 65)), cut((63, 1), (65, 1), (-1, 2), (-1, 2))), []),
+    (also(PADDED, stated((63, 65), (126, 65))), [f"{TILES}: {SAYS.format('63 × 65', '64 × 66')}"]),
+    (also(PADDED, stated((63, 65), (126, 65)), cut((63, 1), (65, 1), (0, 1), (0, 1))), [f"{TILES}: {SAYS.format('63 × 65', '64 × 66')}"]),
+    (also(PADDED, stated((64, 72), (128, 72))), [f"{TILES}: {SAYS.format('64 × 72', '64 × 66')}"]),  # the window forgotten
+    (also(coded(sps(64, 72, 1, (0, 0, 0, 3)), sps(63, 65, 0)), stated((64, 66), (126, 65))),  # alpha is padded as colour is
+     [f"items 4, 5, hvc1: {SAYS.format('64 × 66', '63 × 65')}"]),
+    (ONE, [f"items 1, 2, hvc1: {SAYS.format('64 × 64', '80 × 64')}"]),
+    (also(SQUARE, property_at(1, box("hvcC", record(sps=[sps(80, 64), sps(80, 64, number=1)])))),
+     [f"items 1, 2, hvc1: {SAYS.format('64 × 64', '80 × 64')}"]),
+    (also(SQUARE, property_at(1, box("hvcC", record(sps=[sps(80, 64), sps(96, 64, number=1)])))), []),  # either may hold
+    (also(ONE, payload(1, in_band(sps(80, 64))), payload(2, in_band(sps(64, 64)))),
+     [f"item 1, hvc1: {SAYS.format('64 × 64', '80 × 64')}"]),  # a sample's own set may hold
+    (also(ONE, payload(1, IN_BAND), payload(2, in_band(sps(80, 64)[:-1]))), []),
+    (also(ONE, payload(1, unit(SLICE)[:-1])), [f"item 1, hvc1: {WALK}: the unit at 0 says 4 bytes, and 3 are left",
+     f"items 1, 2, hvc1: {SAYS.format('64 × 64', '80 × 64')}"]),
+    (also(ONE, property_at(1, box("hvcC", record(sps=[sps(80, 64)])[:-1]))), ["property 1, hvcC: its parameter sets go beyond its end"]),
+    (also(ONE, property_at(1, box("hvcC", record(sps=[sps(80, 64)[:-1]])))), []),
+    (also(ONE, property_at(1, box("hvcC", record(sets=(VPS, PPS)))), *(payload(i, in_band(sps(80, 64))) for i in (1, 2))), []),
+    (also(ONE, item(1, properties=[-1, -4]), item(2, properties=[-1, -4])),
+     ["items 1, 2, hvc1: no ispe among its properties: readers want the size of every picture"]),
+]  # fmt: skip
+for chroma, whole, window, (w, h) in (
+    (1, (64, 64), None, (64, 64)), (1, (72, 72), (2, 3, 1, 2), (62, 66)), (2, (64, 64), None, (64, 64)),
+    (2, (72, 72), (2, 3, 4, 3), (62, 65)), (3, (64, 64), None, (64, 64)), (3, (72, 72), (4, 5, 0, 7), (63, 65)),
+):  # fmt: skip
+    alpha = sps(72, 72, 0, (72 - w, 0, 0, 72 - h)) if window else sps(w, h, 0)
+    planted = coded(sps(*whole, chroma, window), alpha, chroma)
+    SIZES.append((also(planted, stated((w, h), (2 * w, h))), []))
+    for off in ((w + 1, h), (w, h + 1), (w + 1, h + 1)):
+        said = SAYS.format(*(f"{width} × {height}" for width, height in (off, (w, h))))
+        SIZES.append((also(planted, stated(off, (2 * w, h))), [f"{TILES}: {said}"]))
+
 NAMES = [
     (file(primary=9), ["the primary item is item 9, and there is no such item: a reader has nothing to show"]),
     (file(handler="vide"), ["the handler is vide, and readers take pict alone for pictures"]),
@@ -162,7 +302,7 @@ STORED = {
 
 
 def check_planted():
-    cases = SAMPLES + RECORDS + GRIDS + NAMES
+    cases = SAMPLES + RECORDS + GRIDS + CUTS + SIZES + NAMES
     for plant, wanted in [(lambda made: None, []), *cases]:
         made = good()
         plant(made)

@@ -1,13 +1,14 @@
 """What readers refuse in a file, one sentence for each; findings that are alike are one sentence for all their items.
 
 Seen with real readers are an extent of length 0, a distance of 0 to a TIFF header behind Exif's marker, tiles that do not cover
-their grid, and a grid's flags (S2, D11, D12 and S10 of docs/DIFFERENCES.md). The others are what the standards ask for; what
-readers do there is recalled."""
+their grid, a grid's flags, a clap with a 0, and an ispe that is not what the decoder puts out (S2, D11, D12, S10 and, of the last
+two, S12 of docs/DIFFERENCES.md). The others are what the standards ask for; what readers do there is recalled."""
 
-from . import grids, hevc, metadata, properties
+from . import apertures, grids, hevc, metadata, properties, views
 from .boxes import NotHeif, body
 from .fold import named, plural
 from .items import IN_FILE, IN_IDAT
+from .views import by
 
 NEEDED = ("hdlr", "pitm", "iloc", "iprp")  # boxes of meta without which a reader stops; iinf is noted where it is read
 CODED, PICTURES = "hvc1", ("hvc1", "grid")
@@ -57,6 +58,8 @@ class _Check:
         for position, (box, _) in enumerate(self.contents.properties, 1):
             if box.kind == "hvcC":
                 self._record(position, box)
+            elif box.kind == "clap":
+                self._aperture(position, box)
         for item in self.contents.items.values():
             self._places(item)
             self._item(item)
@@ -114,30 +117,41 @@ class _Check:
 
     def _item(self, item):
         payload = self._payload(item)
-        if item.kind in PICTURES and not self._properties(item, "ispe"):
+        if item.kind in PICTURES and not self.contents.positions(item, "ispe"):
             self.of_item(item, "no ispe among its properties: readers want the size of every picture")
+        self._clap(item)
         if item.kind == CODED:
             self._coded(item, payload)
         elif item.kind == "grid":
             self._grid(item, payload)
         elif item.kind == "Exif" and payload is not None and metadata.exif_fault(payload):
             self.of_item(item, f"{metadata.exif_fault(payload)}; exiftool does not find its tags")
-        if self.contents.targets(item.number, "auxl") and not self._properties(item, "auxC"):
+        if self.contents.targets(item.number, "auxl") and not self.contents.positions(item, "auxC"):
             self.of_item(item, "an auxiliary picture (auxl) without auxC, which says what it is: readers refuse it")
 
-    def _properties(self, item, kind):
-        """The positions of an item's properties of a type."""
-        known = self.contents.properties
-        return [p for p, _ in item.associations if 0 < p <= len(known) and known[p - 1][0].kind == kind]
+    # What is seen of a picture
 
-    def _value(self, item, kind, read):
-        """What an item's first property of a type says, or None."""
-        for position in self._properties(item, kind):
-            try:
-                return read(body(self.data, self.contents.properties[position - 1][0]))
-            except NotHeif:
-                return None  # which is noted where it is read
-        return None
+    def _aperture(self, position, box):
+        """A clean aperture by itself."""
+        try:
+            fault = apertures.aperture(body(self.data, box)).fault
+        except NotHeif:
+            return  # which is noted where it is read
+        if fault:
+            self.of_property(position, f"{fault}, which libheif refuses")
+
+    def _clap(self, item):
+        """An item's clean apertures, held to its picture and to its other properties."""
+        kinds = [box.kind for _, box, _ in self.contents.named(item)]
+        if "clap" not in kinds:
+            return
+        if any(box.kind == "clap" and not essential for _, box, essential in self.contents.named(item)):
+            self.of_item(item, "clap is not marked as essential: a reader that does not know it shows what it cuts away")
+        behind = [kind for kind in kinds[kinds.index("clap") :] if kind not in views.CHANGES]
+        if behind:
+            self.of_item(item, f"clap is named before {', '.join(behind)}: what changes a picture stands behind what describes it")
+        for fault in views.view(self.data, self.contents, item).faults:
+            self.of_item(item, fault)
 
     # HEVC
 
@@ -157,19 +171,21 @@ class _Check:
             self.of_property(position, "its parameter sets go beyond its end")
 
     def _coded(self, item, payload):
-        positions = self._properties(item, "hvcC")
+        positions = self.contents.positions(item, "hvcC")
         if len(positions) != 1:
             self.of_item(item, f"{len(positions) or 'no'} hvcC among its properties, and a decoder wants one")
         record = self.records.get(positions[0]) if positions else None
         if record:
             self._depths(item, item, positions[:1])
-        if payload is not None:
-            self._sample(item, payload, record)
+        units = self._sample(item, payload, record) if payload is not None else []
+        if record:
+            self._decoded(item, record, units)
 
     def _sample(self, item, sample, record):
         """The NAL units of a sample, by the lengths that its record says; by four bytes where it does not."""
         size = record.length_size if record else 4
-        kinds, fault = hevc.walk(sample, size)
+        units, fault = hevc.walk(sample, size)
+        kinds = {hevc.type_of(unit) for unit in units}
         code = hevc.start_code(sample).hex(" ")
         if fault and code:
             wants = f"HEIF wants each NAL unit behind its length in {plural(size, 'byte')}"
@@ -183,10 +199,21 @@ class _Check:
             lost = [name for kind, name in hevc.PARAMETER_SETS.items() if kind not in record.sets and kind not in kinds]
             if lost:
                 self.of_item(item, f"no {', '.join(lost)} in the record or in the sample: a decoder cannot begin")
+        return units
+
+    def _decoded(self, item, record, units):
+        """Holds an item's ispe to what the decoder puts out by the record's SPS, unless one of the sample's own says otherwise."""
+        own = {hevc.size(unit) for unit in units if hevc.type_of(unit) == hevc.SPS}
+        size = self.contents.value(self.data, item, "ispe", properties.size)
+        if not record.sizes or len(record.sizes | own) > 1 or size is None:
+            return
+        (decoded,) = record.sizes
+        if decoded and size != decoded:
+            self.of_item(item, f"ispe says {by(size)} pixels, and the parameter sets {by(decoded)}")
 
     def _depths(self, item, coded, positions):
         """Holds an item's pixi to the records at these positions, its own or those of its tiles."""
-        bits = self._value(item, "pixi", properties.depths)
+        bits = self.contents.value(self.data, item, "pixi", properties.depths)
         if bits is None:
             return
         for position in positions:
@@ -206,7 +233,7 @@ class _Check:
         there = [self.contents.items[tile] for tile in tiles if tile in self.contents.items]
         if item.number in tiles:
             self.of_item(item, "the grid is one of its own tiles")
-        self._depths(item, None, sorted({p for tile in there for p in self._properties(tile, "hvcC")}))
+        self._depths(item, None, sorted({p for tile in there for p in self.contents.positions(tile, "hvcC")}))
         if payload is None:
             return
         grid = grids.grid(payload)
@@ -226,26 +253,23 @@ class _Check:
 
     def _sizes(self, item, grid, tiles):
         """Holds a grid's size to its ispe, and to what its tiles cover."""
-        size = self._value(item, "ispe", properties.size)
+        size = self.contents.value(self.data, item, "ispe", properties.size)
         if size and size != (grid.width, grid.height):
-            self.of_item(item, f"ispe says {_by(size)} pixels, and the descriptor {_by((grid.width, grid.height))}")
+            self.of_item(item, f"ispe says {by(size)} pixels, and the descriptor {by((grid.width, grid.height))}")
         by_size = {}
         for tile in tiles:
-            by_size.setdefault(self._value(tile, "ispe", properties.size), []).append(tile.number)
+            by_size.setdefault(views.view(self.data, self.contents, tile).size, []).append(tile.number)
         by_size.pop(None, None)
+        cut = ", as clap leaves them," if any(self.contents.positions(tile, "clap") for tile in tiles) else ""
         if len(by_size) > 1:
-            each = "; ".join(f"{named('item', given)} {_by(size)}" for size, given in list(by_size.items())[:3])
-            self.of_item(item, f"the tiles are not of one size: {each}")
+            each = "; ".join(f"{named('item', given)} {by(size)}" for size, given in list(by_size.items())[:3])
+            self.of_item(item, f"the tiles{cut} are not of one size: {each}")
         elif by_size:
             (width, height) = next(iter(by_size))
             covered = grid.columns * width, grid.rows * height
             if covered[0] < grid.width or covered[1] < grid.height:
-                tiled = f"{grid.columns} × {grid.rows} tiles of {_by((width, height))} cover {_by(covered)} pixels"
-                self.of_item(item, f"{tiled}, and the grid has {_by((grid.width, grid.height))}")
-
-
-def _by(size):
-    return f"{size[0]} × {size[1]}"
+                tiled = f"{grid.columns} × {grid.rows} tiles of {by((width, height))}{cut} cover {by(covered)} pixels"
+                self.of_item(item, f"{tiled}, and the grid has {by((grid.width, grid.height))}")
 
 
 def _sentence(noun, kind, found, cases):

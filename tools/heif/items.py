@@ -73,6 +73,28 @@ class Contents:
         """The items that an item refers to in this way."""
         return [t for reference in self.references_from.get(number, []) if reference.kind == kind for t in reference.targets]
 
+    def property(self, position):
+        """The box of a property, or None where there is none at the position."""
+        return self.properties[position - 1][0] if 0 < position <= len(self.properties) else None
+
+    def named(self, item):
+        """The properties that an item is associated with, of those that are there: position, box, and whether essential."""
+        found = [(position, self.property(position), essential) for position, essential in item.associations]
+        return [each for each in found if each[1]]
+
+    def positions(self, item, kind):
+        """The positions of an item's properties of a type."""
+        return [position for position, box, _ in self.named(item) if box.kind == kind]
+
+    def value(self, data, item, kind, read):
+        """What an item's first property of a type says, or None where it is not there or cannot be read, which is noted then."""
+        for position in self.positions(item, kind):
+            try:
+                return read(body(data, self.property(position)))
+            except NotHeif:
+                return None
+        return None
+
 
 def contents(data, found):
     """The contents of the file whose boxes these are."""

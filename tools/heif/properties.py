@@ -1,6 +1,6 @@
 """What a property says, in words."""
 
-from . import hevc, metadata
+from . import apertures, hevc, metadata
 from .boxes import body
 from .fold import plural
 
@@ -69,12 +69,17 @@ def _imir(part):
     return f"mirrored, axis {axis} ({('top and bottom', 'left and right')[axis]} exchanged, as readers take it)"
 
 
+def _clap(part):
+    return apertures.aperture(part).words
+
+
 def _clli(part):
     return f"light level: brightest pixel {part.number(2)}, brightest average {part.number(2)} candela per square metre"
 
 
 SAYINGS = {
-    "hvcC": _hvcc, "ispe": _ispe, "colr": _colr, "pixi": _pixi, "auxC": _auxc, "irot": _irot, "imir": _imir, "clli": _clli,
+    "hvcC": _hvcc, "ispe": _ispe, "colr": _colr, "pixi": _pixi, "auxC": _auxc, "irot": _irot, "imir": _imir,
+    "clap": _clap, "clli": _clli,
 }  # fmt: skip
 
 

@@ -4,7 +4,7 @@ drawn together."""
 import bisect
 import dataclasses
 
-from . import fold, grids, metadata
+from . import fold, grids, metadata, views
 from .fold import plural
 from .items import IN_FILE, IN_IDAT, Item
 from .rows import Rows, follows, refer
@@ -155,6 +155,11 @@ class _Items:
         return f"{position}{'*' if essential else ''} {kind}"
 
     def _summary(self, item):
+        """What the payload says, and what is seen of a picture that a clap cuts."""
+        seen = views.view(self.data, self.contents, item).words
+        return "; ".join([*filter(None, [self._says(item)]), *seen])
+
+    def _says(self, item):
         """What the payload of a grid, of Exif or of an XMP packet says."""
         if not item.extents or not item.is_whole:
             return ""

@@ -1,26 +1,55 @@
-//! Turns panel sheets into HEIF files with the safe binding: `sheet-writer SHEET FILE [SHEET FILE]...`
+//! Turns panel sheets into HEIF files with the safe binding: `sheet-writer [--visible WIDTHxHEIGHT] SHEET FILE ...`
 //!
 //! Unlike the program `panel` this takes sheets of any length: the readers' panels are coded without loss and are longer
-//! than a card's.
+//! than a card's. `--visible` gives the panel of the next sheet a visible tile size, which a sheet can't say.
 
 mod sheet;
 
+use kahopiru::VisibleSize;
 use std::process::ExitCode;
 
-fn convert(sheet: &str, file: &str) -> Result<(), String> {
+const USAGE: &str = "usage: sheet-writer [--visible WIDTHxHEIGHT] SHEET FILE ...";
+
+/// A sheet, the file that it is to become, and the visible tile size.
+struct Job {
+    sheet: String,
+    file: String,
+    visible: Option<VisibleSize>,
+}
+
+/// A size, as 63x65.
+fn size(words: &str) -> Option<VisibleSize> {
+    let (w, h) = words.split_once('x')?;
+    Some(VisibleSize { w: w.parse().ok()?, h: h.parse().ok()? })
+}
+
+/// What the arguments ask for, or nothing if they are not understood.
+fn jobs(mut words: impl Iterator<Item = String>) -> Option<Vec<Job>> {
+    let mut found = Vec::new();
+    while let Some(mut sheet) = words.next() {
+        let mut visible = None;
+        if sheet == "--visible" {
+            visible = Some(size(&words.next()?)?);
+            sheet = words.next()?;
+        }
+        found.push(Job { sheet, file: words.next()?, visible });
+    }
+    Some(found).filter(|found| !found.is_empty())
+}
+
+fn convert(Job { sheet, file, visible }: &Job) -> Result<(), String> {
     let bytes = std::fs::read(sheet).map_err(|e| format!("{sheet}: {e}"))?;
-    let written = sheet::written(&bytes).map_err(|e| format!("{sheet}: {e}"))?;
+    let written = sheet::written(&bytes, *visible).map_err(|e| format!("{sheet}: {e}"))?;
     std::fs::write(file, written).map_err(|e| format!("{file}: {e}"))
 }
 
 fn main() -> ExitCode {
-    let names: Vec<String> = std::env::args().skip(1).collect();
-    if names.is_empty() || names.len() % 2 == 1 {
-        eprintln!("usage: sheet-writer SHEET FILE [SHEET FILE]...");
+    let Some(jobs) = jobs(std::env::args().skip(1)) else {
+        eprintln!("{USAGE}");
         return ExitCode::from(2);
-    }
-    for pair in names.chunks_exact(2) {
-        if let Err(error) = convert(&pair[0], &pair[1]) {
+    };
+    for job in &jobs {
+        if let Err(error) = convert(job) {
             eprintln!("sheet-writer: {error}");
             return ExitCode::FAILURE;
         }

@@ -1,7 +1,7 @@
 //! Reads a panel sheet, and writes the panel's file.
 
 use kahopiru::{to_vec, BitDepth, Cicp, ColorMetadata, ContentLightLevel, EncodedGainMap, GridDims, Metadata};
-use kahopiru::{MatrixCoefficients, Orientation, Panel, Primaries, Samples, TransferFunction};
+use kahopiru::{MatrixCoefficients, Orientation, Panel, Primaries, Samples, TransferFunction, VisibleSize};
 
 /// Why a sheet is not a panel's: the sheet's own refusals, in words.
 const CUT_SHORT: &str = "the sheet ends before its fields do";
@@ -68,8 +68,8 @@ fn sum(lengths: &[u32]) -> usize {
     lengths.iter().map(|&l| l as usize).sum()
 }
 
-/// The file of the sheet's panel, or why there is none.
-pub fn written(sheet: &[u8]) -> Result<Vec<u8>, String> {
+/// The file of the sheet's panel with a visible tile size or without, or why there is none.
+pub fn written(sheet: &[u8], visible: Option<VisibleSize>) -> Result<Vec<u8>, String> {
     let mut rest = Rest(sheet);
     let map = rest.u16()?;
     let has = |bit: u8| map >> bit & 1 == 1;
@@ -85,6 +85,7 @@ pub fn written(sheet: &[u8]) -> Result<Vec<u8>, String> {
     let alpha_samples = Samples { lengths: &alpha_lengths, bytes: rest.take(sum(&alpha_lengths))? };
     let panel = Panel {
         dims: GridDims { cols, rows, tile_w, tile_h, full_w, full_h },
+        visible,
         bit_depth,
         alpha_bit_depth,
         color_hvcc,
