@@ -116,22 +116,34 @@ static const struct {
     {64, UINT32_MAX, 192, UINT32_MAX, KAHOPIRU_ACCEPTED, "tiles that reach beyond 32 bits, down"},
 };
 
-static void sizes(const given *p) {
-    static const uint32_t zeros[6], two[] = {1, 0};
+/* P with two rows of three empty tiles. */
+static given six_tiles(const given *p) {
+    static const uint32_t zeros[6];
     given g = *p;
     g.color_samples = g.alpha_samples = nothing;
     g.color_lengths = g.alpha_lengths = (numbers){zeros, 6};
     g.panel.cols = 3;
     g.panel.rows = 2;
+    return g;
+}
+
+/* A panel must be accepted, or refused with this number. */
+static void judged(const given *g, uint32_t refusal, const char *why) {
+    if (refusal == KAHOPIRU_ACCEPTED)
+        expect(by->length(g).refusal == KAHOPIRU_ACCEPTED, why, "it is accepted");
+    else
+        refused(g, refusal, why);
+}
+
+static void sizes(const given *p) {
+    static const uint32_t two[] = {1, 0};
+    given g = six_tiles(p);
     for (size_t i = 0; i < sizeof sized / sizeof *sized; i++) {
         g.panel.tile_w = sized[i].tile_w;
         g.panel.tile_h = sized[i].tile_h;
         g.panel.full_w = sized[i].full_w;
         g.panel.full_h = sized[i].full_h;
-        if (sized[i].refusal == KAHOPIRU_ACCEPTED)
-            expect(by->length(&g).refusal == KAHOPIRU_ACCEPTED, sized[i].why, "it is accepted");
-        else
-            refused(&g, sized[i].refusal, sized[i].why);
+        judged(&g, sized[i].refusal, sized[i].why);
     }
 
     /* Panels at which two checks hold. */
@@ -178,12 +190,7 @@ static const struct {
 };
 
 static void visible_sizes(const given *p) {
-    static const uint32_t zeros[6];
-    given g = *p;
-    g.color_samples = g.alpha_samples = nothing;
-    g.color_lengths = g.alpha_lengths = (numbers){zeros, 6};
-    g.panel.cols = 3;
-    g.panel.rows = 2;
+    given g = six_tiles(p);
     g.panel.has_visible = 1;
     for (size_t i = 0; i < sizeof seen / sizeof *seen; i++) {
         g.panel.tile_w = seen[i].tile_w;
@@ -192,10 +199,7 @@ static void visible_sizes(const given *p) {
         g.panel.visible_h = seen[i].visible_h;
         g.panel.full_w = seen[i].full_w;
         g.panel.full_h = seen[i].full_h;
-        if (seen[i].refusal == KAHOPIRU_ACCEPTED)
-            expect(by->length(&g).refusal == KAHOPIRU_ACCEPTED, seen[i].why, "it is accepted");
-        else
-            refused(&g, seen[i].refusal, seen[i].why);
+        judged(&g, seen[i].refusal, seen[i].why);
     }
 
     /* The neighbours of 22 on its other side, and the code before all. */

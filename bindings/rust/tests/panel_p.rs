@@ -14,6 +14,13 @@ fn box_at(file: &[u8], at: usize) -> (usize, &[u8]) {
     (size as usize, &file[at + 4..at + 8])
 }
 
+/// Holds a file to boxes, each by its type, its offset and its size.
+fn hold_boxes(file: &[u8], boxes: &[(&[u8; 4], usize, usize)]) {
+    for &(name, at, size) in boxes {
+        assert_eq!(box_at(file, at), (size, &name[..]), "at {at}");
+    }
+}
+
 /// Whether bytes occur in a file.
 fn holds(file: &[u8], bytes: &[u8]) -> bool {
     file.windows(bytes.len()).any(|w| w == bytes)
@@ -23,7 +30,7 @@ fn holds(file: &[u8], bytes: &[u8]) -> bool {
 fn every_box_is_where_the_specification_says() {
     let file = to_vec(&p()).unwrap();
     assert_eq!(file.len(), 556);
-    for (name, at, size) in [
+    let boxes = [
         (b"ftyp", 0, 28),
         (b"meta", 28, 518),
         (b"hdlr", 40, 33),
@@ -36,9 +43,8 @@ fn every_box_is_where_the_specification_says() {
         (b"ipma", 483, 39),
         (b"idat", 522, 24),
         (b"mdat", 546, 10),
-    ] {
-        assert_eq!(box_at(&file, at), (size, &name[..]), "at {at}");
-    }
+    ];
+    hold_boxes(&file, &boxes);
     assert_eq!(&file[8..28], b"heic\0\0\0\0heicmif1miaf");
     assert_eq!(&file[554..], [0xAA, 0xBB]);
     // The colour tile's extent in iloc: file offset 554, one byte; the alpha tile's: 555, one byte.
@@ -92,7 +98,7 @@ fn a_visible_size_is_a_property_that_tiles_name_last() {
     panel.visible = Some(VisibleSize { w: 63, h: 61 });
     let file = to_vec(&panel).unwrap();
     assert_eq!(file.len(), 598);
-    for (name, at, size) in [
+    let boxes = [
         (b"ftyp", 0, 28),
         (b"meta", 28, 560),
         (b"iprp", 319, 245),
@@ -101,9 +107,8 @@ fn a_visible_size_is_a_property_that_tiles_name_last() {
         (b"ipma", 523, 41),
         (b"idat", 564, 24),
         (b"mdat", 588, 10),
-    ] {
-        assert_eq!(box_at(&file, at), (size, &name[..]), "at {at}");
-    }
+    ];
+    hold_boxes(&file, &boxes);
     // The tile's ispe keeps the decoded size; clap has the visible one, and behind it what it lacks of the decoded.
     assert_eq!(&file[357..365], [0, 0, 0, 64, 0, 0, 0, 64]);
     assert_eq!(&file[491..507], [0, 0, 0, 63, 0, 0, 0, 1, 0, 0, 0, 61, 0, 0, 0, 1]);

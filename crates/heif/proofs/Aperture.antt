@@ -1,10 +1,10 @@
 -- By the standard's meaning, what a file shows of a tile begins at the tile's first column and row and is as large as the visible size.
 use mathlib.Core.Path.{◌≡◌, refl, ap, ◌∙◌}
-use Rattle.std.specs.Prelude.{Option, Some, ℤ, pos, neg_ℤ, ◌-ℤ◌}
+use Rattle.std.specs.Prelude.{Option, Some, ℤ, pos, ◌-ℤ◌}
 use Rattle.std.specs.Int.{cast_signed, cast_unsigned}
 use Rattle.std.proofs.lemmas.Int.{ints, to_z-of_z}
 use mathlib.Core.List.{List, [], ◌∷◌, append_assoc}
-use Prim.Native.Nat.{ℕ, zero, suc, max, ◌+◌, ◌-◌, ◌^◌, ◌<◌}
+use Prim.Native.Nat.{ℕ, max, ◌+◌}
 use native.Mathlib.Omega.{arith}
 use mir.Syntax.{w32}
 use mir.Val.{SFits}
@@ -31,7 +31,7 @@ use Rattle.heif.specs.Items.{ids_from}
 use Rattle.heif.specs.Aperture.{Fraction, whole, ◌is◌, clean_width, clean_height, horizontal_offset, vertical_offset, first, last}
 use Rattle.heif.specs.Aperture.{first_column, last_column, first_row, last_row}
 use Rattle.heif.specs.Refusal.{refusal}
-use Rattle.heif.proofs.Refusal.{Part, Seen, accepted}
+use Rattle.heif.proofs.Refusal.{Part, Visible, accepted}
 
 -- along one axis, s of d pixels visible: the clean size, and the offset of its centre
 abbrev clean : ℕ → Fraction
@@ -51,28 +51,20 @@ module _ (s d : ℕ) {a b : Fraction} (clean_is : a ≡ clean s) (offset_is : b 
   last_seen : last d a b is whole (pos s -ℤ pos 1)
   last_seen = rw (clean_is, offset_is) (record { defined = omega arith; defined_too = omega arith; same = omega (arith, ints) })
 
--- a number that is zero or below, by its distance
-within : (k : ℕ) → k < 2 ^ 31 → SFits w32 (neg_ℤ (pos k))
-within zero h = record { sfits = omega arith }
-within (suc k) h = record { sfits = omega (arith, h) }
-
 -- what is written is read
 module _ (s d : ℕ) (p : Part s d) where
   clean_read : value (be 4 s) ≡ s
   clean_read = value-be 4 s (omega (arith, p.inside, p.short))
 
-  below : difference s d ≡ neg_ℤ (pos (d - s))
-  below = omega (arith, ints, p.inside)
-
   offset_read : cast_signed w32 (value (be 4 (cast_unsigned w32 (difference s d)))) ≡ pos s -ℤ pos d
   offset_read =
-      let fits : SFits w32 (difference s d) = rw below (within (d - s) (omega (arith, p.short))) in
+      let fits : SFits w32 (difference s d) = record { sfits = grind (arith, ints, p.inside, p.short) } in
       ap (cast_signed w32) (value-be 4 (cast_unsigned w32 (difference s d)) (omega (arith, ints, p.inside, p.short)))
       ∙ to_z-of_z w32 _ fits
       ∙ omega (arith, ints)
 
 -- what the body's numbers say
-module _ (d : GridDims) (v : VisibleSize) (s : Seen d v) where
+module _ (d : GridDims) (v : VisibleSize) (s : Visible d v) where
   width_told : clean_width (clap_body d v) ≡ clean v.w
   width_told = ap clean (clean_read v.w d.tile_w s.width)
 
@@ -127,7 +119,7 @@ pub record Shows (p : Panel) (v : VisibleSize) : Type 0 where
 -- of every accepted panel with a visible size
 pub aperture : (f : Form) (p : Panel) (v : VisibleSize) → refusal f p ≡ 0 → p.visible ≡ Some v → Shows p v
 aperture f p v a e =
-    let s : Seen p.dims v = rw e at (accepted f p a).visible in
+    let s : Visible p.dims v = rw e at (accepted f p a).visible in
     let across = across_told p.dims v s in
     let down = down_told p.dims v s in
     let at_clap : positions 1 (slots p) Ipco.clap ≡ (1 + length (ahead p)) ∷ []

@@ -76,16 +76,16 @@ width-associations p =
     let s = shape p in
     let t : length (turns its) ≡ turn_count p.metadata.orientation = simp (length-append, length-map, length-ids_from, length-optional) in
     let v = clap_count p.visible in
-    let seen : length (colour_tile_list its) ≡ 3 + v = simp (length-map, length-ids_from, length-clap) (omega arith) in
-    let alpha_seen : length (alpha_tile_list its) ≡ 2 + v = simp (length-map, length-ids_from, length-clap) (omega arith) in
+    let tile : length (colour_tile_list its) ≡ 3 + v = simp (length-map, length-ids_from, length-clap) (omega arith) in
+    let alpha : length (alpha_tile_list its) ≡ 2 + v = simp (length-map, length-ids_from, length-clap) (omega arith) in
     let c : length (colour_grid_list its) ≡ 3 + second_colr_count p.colour.cicp p.colour.icc + cond (is_some p.metadata.light) 1 0 + length (turns its)
     = simp (length-append, length-ids_from, length-second_colr, length-clli) (omega arith) in
     omega (
       arith,
       width-append (colour_associations s its) (alpha_associations s its ‖ gain_associations s its),
       width-append (alpha_associations s its) (gain_associations s its),
-      width_picture 1 s.tiles (colour_grid s) (colour_tile_list its) (colour_grid_list its) {k = 3 + v} seen,
-      width_picture (alpha_tile s) s.tiles (alpha_grid s) (alpha_tile_list its) (alpha_grid_list its) {k = 2 + v} alpha_seen,
+      width_picture 1 s.tiles (colour_grid s) (colour_tile_list its) (colour_grid_list its) {k = 3 + v} tile,
+      width_picture (alpha_tile s) s.tiles (alpha_grid s) (alpha_tile_list its) (alpha_grid_list its) {k = 2 + v} alpha,
       width-gain p p.gain ∙ ap (λ (k : ℕ). gain_association_count k p.gain) t,
       c,
       t,

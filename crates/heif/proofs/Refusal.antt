@@ -26,8 +26,8 @@ pub record Part (s d : ℕ) : Type 0 where
   pub inside : s ≤ d
   pub short : d < 2 ^ 31
 
--- of a visible size
-pub record Seen (d : GridDims) (v : VisibleSize) : Type 0 where
+-- of a visible size, along both
+pub record Visible (d : GridDims) (v : VisibleSize) : Type 0 where
   pub width : Part v.w d.tile_w
   pub height : Part v.h d.tile_h
 
@@ -42,7 +42,7 @@ pub record Accepted (f : Form) (p : Panel) : Type 0 where
   pub rows_most : p.dims.rows ≤ 256
   pub cols : 1 ≤ p.dims.cols
   pub cols_most : p.dims.cols ≤ 256
-  pub visible : Of (Seen p.dims) p.visible
+  pub visible : Of (Visible p.dims) p.visible
   pub width : Covers p.dims.cols (seen p.dims p.visible).w p.dims.full_w
   pub height : Covers p.dims.rows (seen p.dims p.visible).h p.dims.full_h
   pub count : (shape p).tiles ≡ p.dims.rows * p.dims.cols
@@ -53,16 +53,16 @@ pub record Accepted (f : Form) (p : Panel) : Type 0 where
   pub few : (shape p).tiles ≤ 65535
   pub size : length (file f p) < 2 ^ 32
 
--- check 22 along an axis passes a part that can be seen, and nothing else
-pub partial : (s d : ℕ) → Part s d → bad_part s d ≡ false
-partial s d c = grind (arith, c.some, c.inside, c.short)
+-- check 22 along an axis passes what can be visible of a tile, and nothing else
+pub part_passes : (s d : ℕ) → Part s d → bad_part s d ≡ false
+part_passes s d c = grind (arith, c.some, c.inside, c.short)
 
-pub part : (s d : ℕ) → bad_part s d ≡ false → Part s d
-part s d e = record { some = grind (arith, e); inside = grind (arith, e); short = grind (arith, e) }
+pub passed_part : (s d : ℕ) → bad_part s d ≡ false → Part s d
+passed_part s d e = record { some = grind (arith, e); inside = grind (arith, e); short = grind (arith, e) }
 
-visible_parts : (d : GridDims) (v : Option VisibleSize) → bad_visible d v ≡ false → Of (Seen d) v
+visible_parts : (d : GridDims) (v : Option VisibleSize) → bad_visible d v ≡ false → Of (Visible d) v
 visible_parts d None e = tt
-visible_parts d (Some v) e = record { width = part v.w d.tile_w (grind (arith, e)); height = part v.h d.tile_h (grind (arith, e)) }
+visible_parts d (Some v) e = record { width = passed_part v.w d.tile_w (grind (arith, e)); height = passed_part v.h d.tile_h (grind (arith, e)) }
 
 -- check 8 along an axis passes what is covered, and nothing else
 pub covered : (n t f : ℕ) → Covers n t f → bad_axis n t f ≡ false

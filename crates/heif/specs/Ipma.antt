@@ -98,7 +98,7 @@ turn_count o = irot_count o + imir_count o
 abbrev pub associated_items : Shape → ℕ
 associated_items s = 2 * s.tiles + 2 + cond s.gain 1 0 + cond s.tone 1 0
 
--- what the gain image and the tone map are associated with: the gain map's properties, and so many transforms
+-- what the gain image and the tone map are associated with: the gain map's properties, and so many of irot and imir
 abbrev pub gain_association_count : ℕ → Option Gain → ℕ
 gain_association_count t None = 0
 gain_association_count t (Some g) = t + gain_property_count (Some g)

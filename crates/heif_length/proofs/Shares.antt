@@ -17,9 +17,8 @@ use Rattle.panel.specs.declared.color.Cicp.{Cicp}
 use Rattle.heif.specs.Idat.{wide, idat_size}
 use Rattle.heif.specs.File.{file, size}
 use Rattle.heif.specs.Refusal.{refusal}
-use Rattle.heif.specs.Items.{Even}
+use Rattle.heif.specs.Items.{shape, Even}
 use Rattle.heif.specs.Clap.{clap_count, clap_size}
-use Rattle.heif.specs.Items.{shape}
 use Rattle.heif.specs.Colr.{first_colr_size, second_colr_count, second_colr_size, alternates_count, stated_size, alternates_size}
 use Rattle.heif.specs.Ipma.{turn_count, gain_association_count}
 use Rattle.heif.specs.Ipco.{tone_properties_size, gain_properties_size}
@@ -91,7 +90,7 @@ tone-shares : (t : Option (List ℕ)) (a : Option Colour)
 tone-shares None a = refl
 tone-shares (Some t) a = omega (arith, alternate-shares a)
 
--- with the transforms that the gain image takes
+-- with irot and imir, which the gain image takes too
 gain-shares : (turns : ℕ) (g : Option Gain)
     → let tone = is_some (tone_of g) in
     shares (gain_extras g) + cond (is_some g) turns 0

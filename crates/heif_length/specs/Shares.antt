@@ -112,7 +112,7 @@ replaced_colr None (Some i) = 19
 abbrev pub replaced : Panel → ℕ
 replaced p = replaced_colr p.colour.cicp p.colour.icc
 
--- a gain image takes the transforms too, a byte for each; a range-extensions record of it brings a brand where the colour record did not
+-- a gain image takes irot and imir too, a byte for each; a range-extensions record of it brings a brand where the colour record did not
 abbrev pub meetings : Panel → ℕ
 meetings p =
     cond (is_some p.gain) (turn_count p.metadata.orientation) 0

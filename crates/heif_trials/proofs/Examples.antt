@@ -1,4 +1,5 @@
 -- The theorem on equal files is not empty: panels that it speaks of, a pair that agrees without being equal, and pairs with other bytes.
+-- Nor is that on the clean aperture: what another clap would show.
 use Rattle.std.specs.Prelude.{option_to_list, pos}
 use mathlib.Core.Path.{◌≡◌, refl, ap}
 use mathlib.Core.List.{List, ◌∷◌, flatten, flat_map}
@@ -11,7 +12,7 @@ use Rattle.panel.specs.Panel.{Panel}
 use Rattle.panel.specs.Types.{bits}
 use Rattle.panel.specs.declared.fmt.BitDepth.{BitDepth}
 use Rattle.panel.specs.Agreement.{norm, Agree}
-use Rattle.panel.specs.Widths.{Fits}
+use Rattle.panel.specs.Widths.{DimsFit, Fits}
 use Rattle.panel.specs.Form.{ordinary}
 use Rattle.heif.specs.File.{file}
 use Rattle.heif.specs.Aperture.{whole, ◌is◌, first_column}
@@ -19,15 +20,18 @@ use Rattle.heif.specs.Refusal.{refusal}
 use Rattle.heif_unique.proofs.Unique.{same_files}
 use Rattle.heif_trials.specs.Panels.{panel_p, panel_p_stated, panel_p_other, seen_as, at_depths}
 
+panel_p-dims : DimsFit panel_p.dims
+panel_p-dims = record { tile_w = omega arith; tile_h = omega arith; full_w = omega arith; full_h = omega arith }
+
 pub panel_p-fits : Fits panel_p
-panel_p-fits = record { dims = record { tile_w = omega arith; tile_h = omega arith; full_w = omega arith; full_h = omega arith }; visible = tt; light = tt; gain = tt }
+panel_p-fits = record { dims = panel_p-dims; visible = tt; light = tt; gain = tt }
 
 pub panel_p-accepted : refusal ordinary panel_p ≡ 0
 unfolding boxes flatten flat_map file refusal
 panel_p-accepted = refl
 
 pub panel_p_other-fits : Fits panel_p_other
-panel_p_other-fits = record { dims = record { tile_w = omega arith; tile_h = omega arith; full_w = omega arith; full_h = omega arith }; visible = tt; light = tt; gain = tt }
+panel_p_other-fits = record { dims = panel_p-dims; visible = tt; light = tt; gain = tt }
 
 panel_p_other-accepted : refusal ordinary panel_p_other ≡ 0
 unfolding boxes flatten flat_map file refusal
@@ -57,13 +61,7 @@ alpha_depth_byte d a = refl
 
 -- P with a visible size, and all of its tile seen, shows what P shows, and is another panel with another file
 pub whole_tile-fits : Fits (seen_as 64 64 panel_p)
-whole_tile-fits =
-    record {
-      dims = record { tile_w = omega arith; tile_h = omega arith; full_w = omega arith; full_h = omega arith };
-      visible = record { w = omega arith; h = omega arith };
-      light = tt;
-      gain = tt;
-    }
+whole_tile-fits = record { dims = panel_p-dims; visible = record { w = omega arith; h = omega arith }; light = tt; gain = tt }
 
 whole_tile-accepted : refusal ordinary (seen_as 64 64 panel_p) ≡ 0
 unfolding boxes flatten flat_map file refusal

@@ -14,10 +14,10 @@ use Rattle.heif.specs.Ipco.{gain_property_count}
 use Rattle.heif.specs.Colr.{alternates, second_colr_count, alternates_count}
 use Rattle.heif.specs.Imir.{imir_payload, imir_count}
 use Rattle.heif.specs.Irot.{irot_payload, irot_count}
+use Rattle.heif.specs.Clap.{clap_count}
 use Rattle.heif.proofs.Items.{length-ids_from}
 use Rattle.heif.proofs.Colr.{length-second_colr, length-alternates}
 use Rattle.heif.proofs.Clli.{length-clli}
-use Rattle.heif.specs.Clap.{clap_count}
 use Rattle.heif.proofs.Clap.{length-clap}
 use Rattle.plan_runs.proofs.Runs.{length-places}
 use Rattle.plan_runs.specs.Roles.{its_of}

@@ -1,6 +1,5 @@
 -- The positions of the properties that may be absent, as a panel has them.
-use Rattle.std.specs.Prelude.{ℕ, ◌+◌}
-use Rattle.std.specs.Prelude.{Option}
+use Rattle.std.specs.Prelude.{ℕ, ◌+◌, Option}
 use Rattle.panel.specs.Panel.{Colour, Metadata}
 use Rattle.panel.specs.declared.VisibleSize.{VisibleSize}
 use Rattle.heif.specs.Colr.{second_colr_count}

@@ -49,8 +49,8 @@ pub fn color_tile_list(y: &Places) -> [Associated; 4]
     ]
 }
 
-// The colour grid: ispe, colr, which is essential, pixi, what is there of the second colr and clli, and the transforms, which come last and
-// are essential.
+// The colour grid: ispe, colr, which is essential, pixi, what is there of the second colr and clli, and irot and imir, which come last
+// and are essential.
 pub fn color_grid_list(y: &Places) -> [Associated; 7]
     ensures { listed result ≡ colour_grid_list (its_of y.now) }
 {
@@ -78,7 +78,7 @@ pub fn alpha_tile_list(y: &Places) -> [Associated; 3]
     ]
 }
 
-// The alpha grid: ispe, pixi, auxC, and of what may be absent the transforms.
+// The alpha grid: ispe, pixi, auxC, and of what may be absent irot and imir.
 pub fn alpha_grid_list(y: &Places) -> [Associated; 5]
     ensures { listed result ≡ alpha_grid_list (its_of y.now) }
 {
@@ -91,7 +91,7 @@ pub fn alpha_grid_list(y: &Places) -> [Associated; 5]
     ]
 }
 
-// The gain image: hvcC first, which is essential, and the transforms.
+// The gain image: hvcC first, which is essential, and irot and imir, which come last and are, too.
 pub fn image_list(y: &Places) -> [Associated; 7]
     ensures { listed result ≡ image_list (its_of y.now) }
 {

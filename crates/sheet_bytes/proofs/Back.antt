@@ -127,9 +127,9 @@ module _ (p : Panel) (h : Sayable p) where
   unfolding sheet_bytes
   bytes-short = let s = simp length-append at h.short in (omega arith, omega arith)
 
-  -- p, of which no visible size is said
-  unseen : Panel
-  unseen =
+  -- what is said of p: no visible size
+  said : Panel
+  said =
       record {
         dims = p.dims;
         visible = None;
@@ -142,12 +142,12 @@ module _ (p : Panel) (h : Sayable p) where
         gain = p.gain;
       }
 
-  all_said : unseen ≡ p
-  unfolding unseen
+  all_said : said ≡ p
+  unfolding said
   all_said = rw h.visible refl
 
-  off_fields : Ends fields (sheet_bytes p) unseen
-  unfolding fields sheet_bytes unseen
+  off_fields : Ends fields (sheet_bytes p) said
+  unfolding fields sheet_bytes said
   off_fields =
       and-ends _ (off_map p h.alternate)
       (and-ends _ off_dims

@@ -1,5 +1,5 @@
--- No sheet is answered 22, 2, 3, 4 or 5: of the panel that it says, which has no visible size, only a side of the grid, a picture that its
--- tiles don't cover, or the room can be refused.
+-- What a sheet can be refused with, and that it is not 22, 2, 3, 4 or 5: of the panel that it says, which has no visible size, only a side
+-- of the grid, a picture that its tiles don't cover, or the room can be refused.
 use mathlib.Core.Path.{◌≡◌, refl, sym, ap, ◌∙◌}
 use mathlib.Core.Bool.{Bool, true, false, ◌||◌, ◌&&◌, not, cond}
 use Rattle.std.specs.Prelude.{Option, None, Some, is_some}
@@ -195,22 +195,28 @@ stops_late : (s : List ℕ) (k : ℕ) → sheet s ≡ stop k → (11 ≤ k) × (
 unfolding sheet
 stops_late s k e = grind (arith, a-panel.stops)
 
-which : (b1 b8 b6 : Bool) (size k : ℕ) → outcome (cond b1 1 (cond b8 8 (cond b6 6 0))) size ≡ refused k → (k ≡ 1) ⊎ ((k ≡ 8) ⊎ (k ≡ 6))
-which b1 b8 b6 size k e = grind arith
+-- what a sheet can be refused with: 1, 8 or 6 for the panel that it says, 11 to 15 for itself
+pub Answered : ℕ → Type 0
+Answered k = (k ≡ 1) ⊎ ((k ≡ 8) ⊎ ((k ≡ 6) ⊎ ((11 ≤ k) × (k ≤ 15))))
 
--- of what is refused, a number below 11 or above 15 is that of the panel
-of_panel : (s : List ℕ) (room k : ℕ) → sheet_answer s room ≡ refused k → (k < 11) ⊎ (15 < k) → (k ≡ 1) ⊎ ((k ≡ 8) ⊎ (k ≡ 6))
-unfolding sheet_answer write_answer
-of_panel s room k e l = go (sheet s) refl e
+of_panel : (b1 b8 b6 : Bool) (size k : ℕ) → outcome (cond b1 1 (cond b8 8 (cond b6 6 0))) size ≡ refused k → Answered k
+unfolding Answered
+of_panel b1 b8 b6 size k e = grind arith
+
+pub answered : (s : List ℕ) (room k : ℕ) → sheet_answer s room ≡ refused k → Answered k
+unfolding sheet_answer write_answer Answered
+answered s room k e = go (sheet s) refl e
   where
-    go : (r : Read Panel) → sheet s ≡ r → answer_of r room ≡ refused k → (k ≡ 1) ⊎ ((k ≡ 8) ⊎ (k ≡ 6))
-    go (got p rest) h e = which (bad_grid p.dims.rows p.dims.cols) (bad_cover p.dims (seen p.dims p.visible)) (ltb room (length (file ordinary p))) (length (file ordinary p)) k (ap (λ n. outcome n (length (file ordinary p))) (sym (said-only s rest p h room)) ∙ e)
-    go (stop j) h e = let v : j ≡ k = cc in absurd (omega (arith, stops_late s j h, l))
+    go : (r : Read Panel) → sheet s ≡ r → answer_of r room ≡ refused k → Answered k
+    go (got p rest) h e = of_panel (bad_grid p.dims.rows p.dims.cols) (bad_cover p.dims (seen p.dims p.visible)) (ltb room (length (file ordinary p))) (length (file ordinary p)) k (ap (λ n. outcome n (length (file ordinary p))) (sym (said-only s rest p h room)) ∙ e)
+    go (stop j) h e = let v : j ≡ k = cc in let l = stops_late s j h in grind (arith, v, l)
 
--- no sheet is answered 2, 3, 4 or 5
+-- so no sheet is answered 2, 3, 4 or 5
 pub never : (s : List ℕ) (room k : ℕ) → sheet_answer s room ≡ refused k → 2 ≤ k → k ≤ 5 → ⊥
-never s room k e l m = grind (arith, of_panel s room k e)
+unfolding Answered
+never s room k e l m = grind (arith, answered s room k e)
 
 -- nor 22
 pub never_visible : (s : List ℕ) (room : ℕ) → sheet_answer s room ≡ refused 22 → ⊥
-never_visible s room e = grind (arith, of_panel s room 22 e)
+unfolding Answered
+never_visible s room e = grind (arith, answered s room 22 e)

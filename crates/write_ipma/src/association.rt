@@ -40,8 +40,8 @@ pub(crate) fn write_association(
     n: u8,
     list: &[Associated],
 )
-    requires count { be 1 n ≡ be 1 (length (listed list.now)) }
     requires room { Room out.old (association_size (form_of form) (length (listed list.now))) }
+    requires count { be 1 n ≡ be 1 (length (listed list.now)) }
     ensures { Wrote out.old (association_size (form_of form) (length (listed list.now))) (association (form_of form) (id.0 with listed list.now)) out.new }
 {
     match form {

@@ -1,4 +1,4 @@
--- What is cut off is not written.
+-- A count taken modulo 256 has the same lowest 8 bits.
 use mathlib.Core.Path.{ap, ◌∙◌}
 use Rattle.octets.specs.Numbers.{be}
 use Rattle.octets.proofs.Numbers.{be-mod}
