@@ -1,1 +1,2 @@
+pub mod Extras
 pub mod Shares

@@ -1,3 +1,4 @@
 pub mod Trials
 pub mod Examples
 pub mod Promises
+pub mod Listed

@@ -49,8 +49,12 @@ panel_p_transpose = column 1 64 0xAA unstated (said Transpose None None) None
 abbrev pub panel_p_exif : List ℕ → Panel
 panel_p_exif exif = column 1 64 0xAA unstated (said Normal None (Some exif)) None
 
+-- 1,000 at the highest, 400 on average
+abbrev pub some_light : Option ContentLightLevel
+some_light = Some (record { max_content_light_level = 1000; max_pic_average_light_level = 400 })
+
 abbrev pub panel_p_light : Panel
-panel_p_light = column 1 64 0xAA unstated (said Normal (Some (record { max_content_light_level = 1000; max_pic_average_light_level = 400 })) None) None
+panel_p_light = column 1 64 0xAA unstated (said Normal some_light None) None
 
 abbrev pub panel_p_tone : Panel
 panel_p_tone =

@@ -1,38 +1,34 @@
 -- What a sheet can be refused with, and that it is not 22, 2, 3, 4 or 5: of the panel that it says, which has no visible size, only a side
 -- of the grid, a picture that its tiles don't cover, or the room can be refused.
 use mathlib.Core.Path.{◌≡◌, refl, sym, ap, ◌∙◌}
-use mathlib.Core.Bool.{Bool, true, false, ◌||◌, ◌&&◌, not, cond}
+use mathlib.Core.Bool.{Bool, true, false, ◌||◌, cond}
 use Rattle.std.specs.Prelude.{Option, None, Some, is_some}
 use mathlib.Core.Logic.{◌⊎◌}
-use mathlib.Core.List.{List, [], ◌∷◌, ◌++◌, map}
-use Prim.Native.Nat.{ℕ, ◌+◌, ◌*◌, ◌^◌, ◌≤◌, ◌<◌}
+use mathlib.Core.List.{List, [], ◌∷◌}
+use Prim.Native.Nat.{ℕ, ◌*◌, ◌^◌, ◌≤◌, ◌<◌}
 use native.Mathlib.Omega.{arith}
 use lib.Dec.{ltb}
 use lib.ListN.{length}
 use borrow.Author.Tests.{le-ltb, ltb-false}
-use Rattle.octets.specs.Numbers.{◌‖◌, total}
+use Rattle.std.proofs.lemmas.List.Sums.{sum_by-cons}
+use Rattle.octets.specs.Numbers.{◌‖◌}
 use Rattle.panel.specs.Panel.{Colour, Gain, Panel}
 use Rattle.panel.specs.Form.{ordinary}
 use Rattle.panel.specs.Parts.{given}
 use Rattle.panel.specs.Widths.{Of}
 use Rattle.panel.specs.Outcome.{refused, outcome}
-use Rattle.panel.specs.declared.GridDims.{GridDims}
 use Rattle.panel.specs.declared.VisibleSize.{VisibleSize}
 use Rattle.panel.specs.declared.color.Cicp.{Cicp}
-use Rattle.panel.specs.declared.metadata.Orientation.{Orientation}
 use Rattle.heif.specs.Items.{shape, last_id, Even}
-use Rattle.heif.specs.Idat.{wide}
-use Rattle.heif.specs.Hvcc.{rext}
-use Rattle.heif.specs.Ftyp.{gain_rext}
 use Rattle.heif.specs.File.{file}
 use Rattle.heif.specs.Refusal.{bad_grid, bad_visible, seen, bad_cover, bad_counts, bad_sum, bad_items, too_long, refusal_in}
 use Rattle.heif.specs.Answer.{write_answer}
-use Rattle.heif.specs.Ipma.{turn_count}
 use Rattle.heif.proofs.Refusal.{ordinary-items}
-use Rattle.heif_length.specs.Shares.{Extra, share, wide_grid, alternate_cicp, light_level, grid_extras, turn_extras, visible_extras}
-use Rattle.heif_length.specs.Shares.{exif_extras, colour_extras}
-use Rattle.heif_length.specs.Shares.{profile_extras, alternate_extras, tone_extras, gain_extras, extras}
-use Rattle.heif_length.proofs.Shares.{length_as_sum}
+use Rattle.heif_length.specs.Extras.{Extra, large_picture, irot, imir, light_level, gain_map, tone_map, alternate_cicp, ◌has◌}
+use Rattle.heif_length.specs.Shares.{share, shares, meetings}
+use Rattle.heif_length.proofs.Extras.{visible_extras, exif_extras, colour_extras, profile_extras, alternate_extras, tone_extras, gain_extras}
+use Rattle.heif_length.proofs.Extras.{extras, extras_listed}
+use Rattle.heif_length.proofs.Shares.{shares-append, length_as_sum}
 use Rattle.sheet_fields.specs.Read.{Read, got, stop}
 use Rattle.sheet.specs.Sheet.{fields, sheet}
 use Rattle.sheet.specs.Answer.{answer_of, sheet_answer}
@@ -40,58 +36,38 @@ use Rattle.sheet_bytes.proofs.Yields.{Short, ShortColour, ShortGain, Bounded, a-
 
 -- ---- the length of the file, by the shares of what the panel has
 
-shares : List Extra → ℕ
-shares l = total (map share l)
-
-shares-append : (x y : List Extra) → shares (x ++ y) ≡ shares x + shares y
-unfolding shares
-shares-append [] y = omega arith
-shares-append (e ∷ x) y = omega (arith, shares-append x y)
-
 cond_small : (b : Bool) (n : ℕ) → cond b n 0 ≤ n
 cond_small b n = grind arith
 
 given_small : (b : Bool) (e : Extra) → shares (given b (e ∷ [])) ≤ share e
-unfolding shares
 given_small b e = grind arith
 
-turns_small : (o : Orientation) → (shares (turn_extras o) ≤ 22) × (turn_count o ≤ 2)
-unfolding shares
-turns_small o = grind arith
-
 no_share : (n : ℕ) (v : Option VisibleSize) → v ≡ None → shares (visible_extras n v) ≡ 0
-unfolding shares
 no_share n v e = ap (λ (w : Option VisibleSize). shares (visible_extras n w)) e
 
 exif_small : (o : Option (List ℕ)) → Of Short o → shares (exif_extras o) ≤ 12343
-unfolding shares
 exif_small o h = grind arith
 
 colour_small : (c : Option Cicp) (i : Option (List ℕ)) → Of Short i → shares (colour_extras c i) ≤ 12301
-unfolding shares
 colour_small c i h = grind arith
 
 profile_small : (i : Option (List ℕ)) → Of Short i → shares (profile_extras i) ≤ 12301
-unfolding shares
 profile_small i h = grind arith
 
 alternate_small : (a : Option Colour) → Of ShortColour a → shares (alternate_extras a) ≤ 12321
-unfolding shares
 alternate_small None h = omega arith
 alternate_small (Some a) h = omega (arith, shares-append (given (is_some a.cicp) (alternate_cicp ∷ [])) (profile_extras a.icc), given_small (is_some a.cicp) alternate_cicp, profile_small a.icc h.icc)
 
 tone_small : (t : Option (List ℕ)) (a : Option Colour) → Of Short t → Of ShortColour a → shares (tone_extras t a) ≤ 24743
-unfolding shares
 tone_small None a h k = omega arith
-tone_small (Some t) a h k = omega (arith, alternate_small a k)
+tone_small (Some t) a h k = omega (arith, sum_by-cons share (tone_map (length t)) (alternate_extras a), h, alternate_small a k)
 
 gain_small : (g : Option Gain) → Of ShortGain g → shares (gain_extras g) ≤ 61850
-unfolding shares
 gain_small None h = omega arith
-gain_small (Some g) h = omega (arith, h.hvcc, h.sample, h.xmp, tone_small g.tone g.alternate h.tone h.alternate)
+gain_small (Some g) h = omega (arith, sum_by-cons share (gain_map (length g.hvcc) (length g.sample) (length g.xmp)) (tone_extras g.tone g.alternate), h.hvcc, h.sample, h.xmp, tone_small g.tone g.alternate h.tone h.alternate)
 
-grid_small : (d : GridDims) → shares (grid_extras d) ≤ 8
-grid_small d = given_small (wide d) wide_grid
+meetings_small : (p : Panel) → meetings p ≤ 6
+meetings_small p = grind arith
 
 first_of : (b1 b22 b8 b2 b3 b4 b5 b6 : Bool) → b22 ≡ false → b2 ≡ false → b3 ≡ false → b4 ≡ false → b5 ≡ false
     → ◌≡◌ {A = ℕ} (elim b1 [ true ↦ 1 | false ↦ elim b22 [ true ↦ 22 | false ↦ elim b8 [ true ↦ 8 | false ↦ elim b2 [ true ↦ 2 | false ↦ elim b3 [ true ↦ 3 | false ↦ elim b4 [ true ↦ 4 | false ↦ elim b5 [ true ↦ 5 | false ↦ elim b6 [ true ↦ 6 | false ↦ 0 ] ] ] ] ] ] ] ]) (cond b1 1 (cond b8 8 (cond b6 6 0)))
@@ -110,26 +86,29 @@ module _ (p : Panel) (b : Bounded p) where
         alpha_sum = b.pictures.alpha.sum;
       }
 
-  extras_small : total (map share (extras p)) ≤ 87000
-  unfolding shares
+  extras_small : shares (extras p) ≤ 87000
   extras_small =
-      let o = p.metadata.orientation in
+      let w = given (p has large_picture) (large_picture ∷ []) in
+      let o = given (p has irot) (irot ∷ []) in
+      let m = given (p has imir) (imir ∷ []) in
+      let l = given (p has light_level) (light_level ∷ []) in
+      let v = visible_extras (shape p).tiles p.visible in
+      let x = exif_extras p.metadata.exif in
       let c = colour_extras p.colour.cicp p.colour.icc in
       let g = gain_extras p.gain in
-      let x = exif_extras p.metadata.exif in
-      let l = given (is_some p.metadata.light) (light_level ∷ []) in
-      let v = visible_extras (shape p).tiles p.visible in
       omega (
         arith,
-        shares-append (grid_extras p.dims) (turn_extras o ‖ l ‖ v ‖ x ‖ c ‖ g),
-        shares-append (turn_extras o) (l ‖ v ‖ x ‖ c ‖ g),
+        shares-append w (o ‖ m ‖ l ‖ v ‖ x ‖ c ‖ g),
+        shares-append o (m ‖ l ‖ v ‖ x ‖ c ‖ g),
+        shares-append m (l ‖ v ‖ x ‖ c ‖ g),
         shares-append l (v ‖ x ‖ c ‖ g),
         shares-append v (x ‖ c ‖ g),
         shares-append x (c ‖ g),
         shares-append c g,
-        grid_small p.dims,
-        (turns_small o).0,
-        given_small (is_some p.metadata.light) light_level,
+        given_small (p has large_picture) large_picture,
+        given_small (p has irot) irot,
+        given_small (p has imir) imir,
+        given_small (p has light_level) light_level,
         no_share (shape p).tiles p.visible b.visible,
         exif_small p.metadata.exif b.metadata.exif,
         colour_small p.colour.cicp p.colour.icc b.colour.icc,
@@ -140,11 +119,9 @@ module _ (p : Panel) (b : Bounded p) where
   file_small =
       omega (
         arith,
-        length_as_sum p even,
+        length_as_sum p (extras p) even (extras_listed p),
         extras_small,
-        cond_small (is_some p.gain) (turn_count p.metadata.orientation),
-        (turns_small p.metadata.orientation).1,
-        cond_small (gain_rext p.gain && not (rext p.tiles.hvcc)) 4,
+        meetings_small p,
         b.pictures.tiles,
         b.pictures.colour.count,
         b.pictures.colour_hvcc,
