@@ -1,5 +1,7 @@
-//! The smallest panel, and one with a gain map.
+//! What several tests use: the smallest panel and one with a gain map, here; and sheets.
 #![allow(dead_code)] // each test file uses its own part
+
+pub mod sheet;
 
 use kahopiru::{EncodedGainMap, GridDims, Panel, Samples};
 
