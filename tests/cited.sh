@@ -89,7 +89,7 @@ look() {
 # text_of DOCUMENT: its text, without blocks of code
 text_of() { awk '/^```/ { on = !on; next } !on' "$1"; }
 
-for document in README.md docs/CLAIMS.md docs/DECISIONS.md docs/FORMAT.md docs/MAP.md docs/SHEET.md; do
+for document in README.md docs/CLAIMS.md docs/DECISIONS.md docs/FORMAT.md docs/LENGTH.md docs/MAP.md docs/SHEET.md; do
     text_of "$document" >"$room/text"
 
     while read -r word; do

@@ -1,7 +1,12 @@
-//! What several tests use: the smallest panel and one with a gain map, here; and sheets.
+//! What several tests use: the smallest panel and one with a gain map, here; random panels, sheets and the tables of
+//! docs/LENGTH.md, each in a module.
 #![allow(dead_code)] // each test file uses its own part
 
+pub mod accepted;
+pub mod listed;
+pub mod random;
 pub mod sheet;
+pub mod table;
 
 use kahopiru::{EncodedGainMap, GridDims, Panel, Samples};
 
