@@ -3,7 +3,7 @@ use mathlib.Core.Path.{◌≡◌, refl, sym, ap, subst, ◌∙◌}
 use mathlib.Core.Bool.{Bool, true, false, true≢false, cond}
 use Rattle.std.specs.Prelude.{◌&&◌, eqb, Option, None, Some, is_some, IsPermutation}
 use mathlib.Core.List.{List, [], ◌∷◌, ◌++◌}
-use Prim.Native.Nat.{ℕ, ◌+◌, ◌*◌, ◌≤◌}
+use Prim.Native.Nat.{ℕ, ◌*◌, ◌≤◌}
 use native.Mathlib.Omega.{arith}
 use lib.ListN.{length}
 use borrow.Author.Tests.{eqb-true, eq-eqb}
@@ -17,13 +17,7 @@ use Rattle.panel.specs.declared.color.Cicp.{Cicp}
 use Rattle.heif_length.specs.Extras.{Extra, large_picture, irot, imir, light_level, visible_size, exif, icc_alone, icc_beside_cicp, gain_map, tone_map, alternate_cicp, alternate_icc}
 use Rattle.heif_length.specs.Extras.{◌has_bytes◌, gain_has_bytes, ◌has◌, same, once, times, ◌lists◌}
 
--- ---- how often an extra stands in a list
-
-times-cons : (x y : Extra) (l : List Extra) → times x (y ∷ l) ≡ once x y + times x l
-times-cons x y l = sum_by-cons (once x) y l
-
-times-append : (x : Extra) (l m : List Extra) → times x (l ++ m) ≡ times x l + times x m
-times-append x l m = sum_by-append (once x) l m
+-- ---- whether two extras are the same
 
 once_itself : (x : Extra) → once x x ≡ 1
 once_itself x = grind arith
@@ -41,7 +35,7 @@ record Found (x : Extra) (l : List Extra) : Type 0 where
 
 found : (x : Extra) (l : List Extra) → 1 ≤ times x l → Found x l
 found x [] h = absurd (omega arith)
-found x (y ∷ l) h = go (same x y) (λ n. found x l (omega (arith, times-cons x y l, once_other x y n)))
+found x (y ∷ l) h = go (same x y) (λ n. found x l (omega (arith, sum_by-cons (once x) y l, once_other x y n)))
   where
     go : Dec (x ≡ y) → ((x ≡ y → ⊥) → Found x l) → Found x (y ∷ l)
     go (yes e) later = record { before = []; behind = l; is = cc }
@@ -50,19 +44,19 @@ found x (y ∷ l) h = go (same x y) (λ n. found x l (omega (arith, times-cons x
 -- they are each other in another order
 same_times : (l m : List Extra) → ((x : Extra) → times x l ≡ times x m) → IsPermutation l m
 same_times [] [] h = IsPermutation-refl []
-same_times [] (y ∷ m) h = absurd (omega (arith, h y, times-cons y y m, once_itself y))
+same_times [] (y ∷ m) h = absurd (omega (arith, h y, sum_by-cons (once y) y m, once_itself y))
 same_times (y ∷ l) m h =
-    let f = found y m (omega (arith, h y, times-cons y y l, once_itself y)) in
+    let f = found y m (omega (arith, h y, sum_by-cons (once y) y l, once_itself y)) in
     let rest = f.before ++ f.behind in
     let counted = λ (x : Extra). ap (times x) f.is in
     let less : (x : Extra) → times x l ≡ times x rest = λ x. omega (
       arith,
       h x,
       counted x,
-      times-cons x y l,
-      times-append x f.before (y ∷ f.behind),
-      times-cons x y f.behind,
-      times-append x f.before f.behind,
+      sum_by-cons (once x) y l,
+      sum_by-append (once x) f.before (y ∷ f.behind),
+      sum_by-cons (once x) y f.behind,
+      sum_by-append (once x) f.before f.behind,
     ) in
     let moved = IsPermutation-trans _ _ _ (IsPermutation-cons y l rest (same_times l rest less)) (IsPermutation-sym _ _ (IsPermutation-middle f.before y f.behind)) in
     subst (IsPermutation (y ∷ l)) (sym f.is) moved
@@ -160,15 +154,15 @@ tone_map-times : (t : ℕ) (g : Option Gain) → times (tone_map t) (gain_extras
 tone_map-times t g = grind (arith, once_at tone_map (λ k n e. cc))
 
 pub extras_listed : (p : Panel) → extras p lists p
-extras_listed p large_picture = simp (times-append, times-given) (grind arith)
-extras_listed p irot = simp (times-append, times-given) (grind arith)
-extras_listed p imir = simp (times-append, times-given) (grind arith)
-extras_listed p light_level = simp (times-append, times-given) (grind arith)
-extras_listed p (visible_size n) = simp (times-append, times-given, visible_size-times) (grind arith)
-extras_listed p (exif e) = simp (times-append, times-given, exif-times) (grind arith)
-extras_listed p (icc_alone c) = simp (times-append, times-given, icc_alone-times) (grind arith)
-extras_listed p (icc_beside_cicp c) = simp (times-append, times-given, icc_beside_cicp-times) (grind arith)
-extras_listed p (gain_map r s x) = simp (times-append, times-given, gain_map-times) (grind arith)
-extras_listed p (tone_map t) = simp (times-append, times-given, tone_map-times) (grind arith)
-extras_listed p alternate_cicp = simp (times-append, times-given) (grind arith)
-extras_listed p (alternate_icc c) = simp (times-append, times-given) (grind (arith, once_at alternate_icc (λ k n e. cc)))
+extras_listed p large_picture = simp (sum_by-append, times-given) (grind arith)
+extras_listed p irot = simp (sum_by-append, times-given) (grind arith)
+extras_listed p imir = simp (sum_by-append, times-given) (grind arith)
+extras_listed p light_level = simp (sum_by-append, times-given) (grind arith)
+extras_listed p (visible_size n) = simp (sum_by-append, times-given, visible_size-times) (grind arith)
+extras_listed p (exif e) = simp (sum_by-append, times-given, exif-times) (grind arith)
+extras_listed p (icc_alone c) = simp (sum_by-append, times-given, icc_alone-times) (grind arith)
+extras_listed p (icc_beside_cicp c) = simp (sum_by-append, times-given, icc_beside_cicp-times) (grind arith)
+extras_listed p (gain_map r s x) = simp (sum_by-append, times-given, gain_map-times) (grind arith)
+extras_listed p (tone_map t) = simp (sum_by-append, times-given, tone_map-times) (grind arith)
+extras_listed p alternate_cicp = simp (sum_by-append, times-given) (grind arith)
+extras_listed p (alternate_icc c) = simp (sum_by-append, times-given) (grind (arith, once_at alternate_icc (λ k n e. cc)))

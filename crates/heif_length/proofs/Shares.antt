@@ -2,8 +2,8 @@
 -- into one number.
 use mathlib.Core.Path.{◌≡◌, refl}
 use mathlib.Core.Bool.{Bool, true, false, cond}
-use Rattle.std.specs.Prelude.{◌&&◌, not, Option, None, Some, is_some, IsPermutation}
-use mathlib.Core.List.{List, [], ◌∷◌, ◌++◌}
+use Rattle.std.specs.Prelude.{◌&&◌, not, Option, None, Some, is_some}
+use mathlib.Core.List.{List, [], ◌∷◌}
 use Prim.Native.Nat.{ℕ, ◌+◌, ◌*◌}
 use native.Mathlib.Omega.{arith}
 use lib.ListN.{length}
@@ -36,17 +36,10 @@ use Rattle.heif_length.proofs.Extras.{extras_listed, only_reordered}
 
 -- ---- what extras add together
 
-pub shares-append : (l m : List Extra) → shares (l ++ m) ≡ shares l + shares m
-shares-append l m = sum_by-append share l m
-
 -- an extra that is there only if so
 shares-given : (b : Bool) (x : Extra) → shares (given b (x ∷ [])) ≡ share x * cond b 1 0
 shares-given true x = omega arith
 shares-given false x = omega arith
-
--- in whichever order
-shares-permutation : (l m : List Extra) → IsPermutation l m → shares m ≡ shares l
-shares-permutation l m o = sum_by-IsPermutation share l m o
 
 -- ---- part by part: the boxes that it adds to, and what it adds to each
 
@@ -116,7 +109,7 @@ meetings_counted p = grind arith
 
 size_as_sum : (p : Panel) → size ordinary p + replaced p ≡ bare p + shares (extras p) + meetings p
 size_as_sum p =
-    simp (shares-append, shares-given)
+    simp (sum_by-append, shares-given)
     (omega (
       arith,
       grid-shares p,
@@ -131,7 +124,7 @@ size_as_sum p =
 -- with the shares of whatever list has the panel's extras, each once
 pub length_as_sum : (p : Panel) (l : List Extra) → Even p → l lists p → length (file ordinary p) + replaced p ≡ bare p + shares l + meetings p
 length_as_sum p l h k =
-    omega (arith, length-file ordinary p h, size_as_sum p, shares-permutation (extras p) l (only_reordered p (extras p) l (extras_listed p) k))
+    omega (arith, length-file ordinary p h, size_as_sum p, sum_by-IsPermutation share (extras p) l (only_reordered p (extras p) l (extras_listed p) k))
 
 pub accepted-length_as_sum : (p : Panel) (l : List Extra) → refusal ordinary p ≡ 0 → l lists p
     → length (file ordinary p) + replaced p ≡ bare p + shares l + meetings p

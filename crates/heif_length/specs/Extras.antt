@@ -4,6 +4,7 @@ use native.Mathlib.Decide.{ℕ_discrete}
 use Rattle.panel.specs.Panel.{Colour, Gain, Panel}
 use Rattle.panel.specs.Types.{irot_steps, imir_axis}
 use Rattle.panel.specs.Parts.{tone_of}
+use Rattle.panel.specs.Agreement.{shown}
 use Rattle.panel.specs.declared.color.Cicp.{Cicp}
 
 -- each with the numbers that its share goes by: how many tiles a picture has, or how many bytes its parts have
@@ -30,10 +31,10 @@ abbrev pub gain_has_bytes : Option Gain → ℕ → ℕ → ℕ → Bool
 gain_has_bytes None r s x = false
 gain_has_bytes (Some g) r s x = eqb (length g.hvcc) r && eqb (length g.sample) s && eqb (length g.xmp) x
 
--- what the alternate colour states, if there is one and a tone map with it
+-- the alternate colour as agreement reads it: none without a tone map, and none that states nothing
 abbrev pub alternate_of : Option Gain → Option Colour
 alternate_of None = None
-alternate_of (Some g) = cond (is_some g.tone) g.alternate None
+alternate_of (Some g) = shown g.tone g.alternate
 
 abbrev pub cicp_of : Option Colour → Option Cicp
 cicp_of None = None

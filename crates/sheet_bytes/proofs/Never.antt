@@ -10,7 +10,7 @@ use native.Mathlib.Omega.{arith}
 use lib.Dec.{ltb}
 use lib.ListN.{length}
 use borrow.Author.Tests.{le-ltb, ltb-false}
-use Rattle.std.proofs.lemmas.List.Sums.{sum_by-cons}
+use Rattle.std.proofs.lemmas.List.Sums.{sum_by-cons, sum_by-append}
 use Rattle.octets.specs.Numbers.{◌‖◌}
 use Rattle.panel.specs.Panel.{Colour, Gain, Panel}
 use Rattle.panel.specs.Form.{ordinary}
@@ -28,7 +28,7 @@ use Rattle.heif_length.specs.Extras.{Extra, large_picture, irot, imir, light_lev
 use Rattle.heif_length.specs.Shares.{share, shares, meetings}
 use Rattle.heif_length.proofs.Extras.{visible_extras, exif_extras, colour_extras, profile_extras, alternate_extras, tone_extras, gain_extras}
 use Rattle.heif_length.proofs.Extras.{extras, extras_listed}
-use Rattle.heif_length.proofs.Shares.{shares-append, length_as_sum}
+use Rattle.heif_length.proofs.Shares.{length_as_sum}
 use Rattle.sheet_fields.specs.Read.{Read, got, stop}
 use Rattle.sheet.specs.Sheet.{fields, sheet}
 use Rattle.sheet.specs.Answer.{answer_of, sheet_answer}
@@ -56,7 +56,7 @@ profile_small i h = grind arith
 
 alternate_small : (a : Option Colour) → Of ShortColour a → shares (alternate_extras a) ≤ 12321
 alternate_small None h = omega arith
-alternate_small (Some a) h = omega (arith, shares-append (given (is_some a.cicp) (alternate_cicp ∷ [])) (profile_extras a.icc), given_small (is_some a.cicp) alternate_cicp, profile_small a.icc h.icc)
+alternate_small (Some a) h = omega (arith, sum_by-append share (given (is_some a.cicp) (alternate_cicp ∷ [])) (profile_extras a.icc), given_small (is_some a.cicp) alternate_cicp, profile_small a.icc h.icc)
 
 tone_small : (t : Option (List ℕ)) (a : Option Colour) → Of Short t → Of ShortColour a → shares (tone_extras t a) ≤ 24743
 tone_small None a h k = omega arith
@@ -98,13 +98,13 @@ module _ (p : Panel) (b : Bounded p) where
       let g = gain_extras p.gain in
       omega (
         arith,
-        shares-append w (o ‖ m ‖ l ‖ v ‖ x ‖ c ‖ g),
-        shares-append o (m ‖ l ‖ v ‖ x ‖ c ‖ g),
-        shares-append m (l ‖ v ‖ x ‖ c ‖ g),
-        shares-append l (v ‖ x ‖ c ‖ g),
-        shares-append v (x ‖ c ‖ g),
-        shares-append x (c ‖ g),
-        shares-append c g,
+        sum_by-append share w (o ‖ m ‖ l ‖ v ‖ x ‖ c ‖ g),
+        sum_by-append share o (m ‖ l ‖ v ‖ x ‖ c ‖ g),
+        sum_by-append share m (l ‖ v ‖ x ‖ c ‖ g),
+        sum_by-append share l (v ‖ x ‖ c ‖ g),
+        sum_by-append share v (x ‖ c ‖ g),
+        sum_by-append share x (c ‖ g),
+        sum_by-append share c g,
         given_small (p has large_picture) large_picture,
         given_small (p has irot) irot,
         given_small (p has imir) imir,
