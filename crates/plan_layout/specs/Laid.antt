@@ -13,11 +13,10 @@ use Rattle.heif.specs.Hvcc.{rext}
 use Rattle.heif.specs.Ftyp.{gain_rext, head}
 use Rattle.heif.specs.Iprp.{iprp}
 use Rattle.heif.specs.Meta.{meta}
-use Rattle.heif.specs.Mdat.{mdat, exif_size}
+use Rattle.heif.specs.Mdat.{mdat, exif_size, mdat_size}
 use Rattle.heif.specs.File.{data_at}
 use Rattle.plan_items.specs.Payloads.{payload_lengths}
 use Rattle.plan_items.specs.declared.payloads.Payloads.{Payloads}
-use Rattle.panel.specs.declared.Panel.{Panel as LentPanel}
 use Rattle.plan_sizes.specs.declared.sizes.Sizes.{Sizes}
 use Rattle.plan_layout.specs.declared.Layout.{Layout}
 
@@ -48,9 +47,9 @@ pub record Laid (f : Form) (p : Panel) (y : Layout) : Type 0 where
   pub color_rext : y.color_rext ≡ rext p.tiles.hvcc
   pub gain_rext : y.gain_rext ≡ gain_rext p.gain
 
--- the boxes make a file, and mdat holds the samples of the panel
-pub record Within (z : Sizes) (p : LentPanel) : Type 0 where
+-- the boxes make a file, and mdat holds the payloads of the panel
+pub record Within (z : Sizes) (p : Panel) : Type 0 where
   pub file : z.ftyp + z.meta + z.mdat ≤ 4294967295
   pub iprp : z.iprp ≤ z.meta
   pub ipco : z.ipco ≤ z.iprp
-  pub samples : 8 + length p.color.samples.bytes.now + length p.alpha.samples.bytes.now ≤ z.mdat
+  pub mdat : z.mdat ≡ 8 + mdat_size p

@@ -46,22 +46,16 @@ pub fn file_size(z: Sizes) -> u128
     z.ftyp as u128 + z.meta + z.mdat
 }
 
-// A length in 32 bits. Of a part that is too long for a file, and has no such length, the contract says nothing.
-fn capped(n: usize) -> u32
-    ensures { n ≤ 4294967295 → result ≡ n }
-{
-    u32::try_from(n).unwrap_or(u32::MAX)
-}
-
 // How many bytes the gain map's payloads have, 0 where there is none.
 fn payload_lengths(gain: &Option<EncodedGainMap>) -> PayloadLengths
-    ensures { gain_data_size (option_map gain_of gain.now) ≤ 4294967295 → result ≡ payload_lengths (option_map gain_of gain.now) }
+    requires { gain_data_size (option_map gain_of gain.now) ≤ 4294967295 }
+    ensures { result ≡ payload_lengths (option_map gain_of gain.now) }
 {
     match gain {
         Some(g) => PayloadLengths {
-            sample: capped(g.sample.len()),
-            xmp: capped(g.xmp.len()),
-            tmap: capped(g.tmap.map_or(0, |tone| tone.len())),
+            sample: g.sample.len() as u32,
+            xmp: g.xmp.len() as u32,
+            tmap: g.tmap.map_or(0, |tone| tone.len()) as u32,
         },
         None => PayloadLengths {
             sample: 0,
@@ -74,8 +68,8 @@ fn payload_lengths(gain: &Option<EncodedGainMap>) -> PayloadLengths
 // Where the payloads lie, from the first colour sample on, of a panel whose payloads end within 32 bits.
 #[tactic(auto, unfolding(panel::specs::Of::panel_of))]
 fn payloads_of(panel: &Panel, color: u32) -> Payloads
-    requires { color + length panel.now.color.samples.bytes.now + length panel.now.alpha.samples.bytes.now ≤ 4294967295 }
-    ensures { color + mdat_size (panel_of panel.now) ≤ 4294967295 → result ≡ payloads_from color (panel_of panel.now) }
+    requires { color + mdat_size (panel_of panel.now) ≤ 4294967295 }
+    ensures { result ≡ payloads_from color (panel_of panel.now) }
 {
     let alpha = color + panel.color.samples.bytes.len() as u32;
     let other = alpha + panel.alpha.samples.bytes.len() as u32;
@@ -84,7 +78,7 @@ fn payloads_of(panel: &Panel, color: u32) -> Payloads
         color,
         alpha,
         other,
-        exif: capped(part_size(panel.metadata.exif)),
+        exif: part_size(panel.metadata.exif) as u32,
         gain: payload_lengths(&panel.gain_map),
     }
 }
@@ -92,7 +86,7 @@ fn payloads_of(panel: &Panel, color: u32) -> Payloads
 // The layout that sizes make of a panel.
 #[tactic(auto, unfolding(panel::specs::Of::panel_of))]
 pub fn placed(panel: &Panel, z: Sizes) -> Layout
-    requires { Within z panel.now }
+    requires { Within z (panel_of panel.now) }
     ensures { (f : _) → Even (panel_of panel.now) → Sized f (panel_of panel.now) z → Laid f (panel_of panel.now) result }
 {
     let mdat = z.ftyp + z.meta as u32;

@@ -1,7 +1,7 @@
 -- What the plan of an accepted panel's file gives to the writer of meta.
 use mathlib.Core.Path.{◌≡◌, refl, sym, ap, subst, ◌∙◌}
 use mathlib.Core.List.{[], ◌∷◌}
-use Prim.Native.Nat.{◌+◌, ◌≤◌, ◌<◌}
+use Prim.Native.Nat.{◌+◌, ◌≤◌}
 use native.Mathlib.Omega.{arith}
 use Rattle.std.specs.Prelude.{true, is_some, Option, None, Some}
 use Rattle.octets.specs.Numbers.{◌‖◌}
@@ -79,7 +79,7 @@ module _ (f : Form) (p : Panel) (m : FilePlan) (made : MadeFrom f p m) where
   pub bytes : meta_bytes f p m.items m.places ≡ 8 + meta_size f p
   bytes = ap (λ (s : Shape). meta_bytes f p s m.places) made.items ∙ bytes_of_shape
 
-  short : size f p < 4294967296
+  short : size f p ≤ 4294967295
   short = omega (arith, length-file f p even, good.size)
 
   sections_of_shape : Sections f p m.layout (shape p) m.places

@@ -56,6 +56,6 @@ unfolding spans flat_map
 entries_none f id at = refl
 
 -- one more in front
-pub entries_more : (f : Form) (id at n : ℕ) (l : List ℕ) → entries f id at (n ∷ l) ≡ entry f (location id 0 at n) ++ entries f (id + 1) (at + n) l
+pub entries_more : (f : Form) (id at n : ℕ) (l : List ℕ) {b : ℕ} → b ≡ at + n → entries f id at (n ∷ l) ≡ entry f (location id 0 at n) ++ entries f (id + 1) b l
 unfolding spans flat_map
-entries_more f id at n l = rw add-one refl
+entries_more f id at n l h = rw (add-one, h) refl

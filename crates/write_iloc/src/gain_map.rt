@@ -1,5 +1,5 @@
 // The gain map's entries in iloc.
-ghost use Rattle.std.specs.Prelude.{cond, [], ◌∷◌, ◌+◌, ◌*◌, ◌<◌};
+ghost use Rattle.std.specs.Prelude.{cond, [], ◌∷◌, ◌+◌, ◌*◌, ◌≤◌};
 ghost use Rattle.octets.specs.Stores.{Room, Wrote};
 ghost use Rattle.panel.specs.Form.{form_of};
 ghost use Rattle.panel.specs.Parts.{given};
@@ -19,7 +19,7 @@ use plan_items::payloads::PayloadLengths;
 pub(crate) struct GainPayloads {
     pub offset: u32,
     pub lengths: PayloadLengths,
-    ghost end_fits: { offset + (lengths.sample + lengths.xmp) < 4294967296 },
+    ghost end_fits: { offset + lengths.sample + lengths.xmp ≤ 4294967295 },
 }
 
 // The entries of the gain image and of its XMP, where there is a gain map.

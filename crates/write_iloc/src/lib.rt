@@ -5,7 +5,7 @@
 pub mod gain_map;
 pub mod location;
 
-ghost use Rattle.std.specs.Prelude.{◌≡◌, true, cond, [], ◌∷◌, ◌+◌, ◌*◌, ◌<◌, length};
+ghost use Rattle.std.specs.Prelude.{◌≡◌, true, cond, [], ◌∷◌, ◌+◌, ◌*◌, ◌≤◌, length};
 ghost use Rattle.octets.specs.Numbers.{◌‖◌, total};
 ghost use Rattle.octets.specs.Stores.{Room, Wrote, Boxed};
 ghost use Rattle.panel.specs.Form.{form_of};
@@ -36,7 +36,7 @@ fn write_picture_locations(out: &mut Output, form: FileForm, tiles: Batch, grid:
 // The entries of what lies behind the alpha samples: the Exif's and the gain map's.
 fn write_other_locations(out: &mut Output, form: FileForm, s: Items, payloads: Payloads)
     requires room { Room out.old (cond s.exif (entry_size (form_of form)) 0 + gain_entries_size (form_of form) s) }
-    requires end_fits { payloads.other + (payloads.exif + (payloads.gain.sample + payloads.gain.xmp)) < 4294967296 }
+    requires end_fits { payloads.other + payloads.exif + payloads.gain.sample + payloads.gain.xmp ≤ 4294967295 }
     ensures { Wrote out.old (cond s.exif (entry_size (form_of form)) 0 + gain_entries_size (form_of form) s) (other_entries (form_of form) s payloads) out.new }
 {
     let exif = Location {
@@ -69,9 +69,9 @@ pub fn write_iloc(
     requires toned { s.tone ≡ true → s.gain ≡ true }
     requires color_tiles { length color.now ≡ s.tiles }
     requires alpha_tiles { length alpha.now ≡ s.tiles }
-    requires color_end_fits { payloads.color + total color.now < 4294967296 }
-    requires alpha_end_fits { payloads.alpha + total alpha.now < 4294967296 }
-    requires other_end_fits { payloads.other + (payloads.exif + (payloads.gain.sample + payloads.gain.xmp)) < 4294967296 }
+    requires color_end_fits { payloads.color + total color.now ≤ 4294967295 }
+    requires alpha_end_fits { payloads.alpha + total alpha.now ≤ 4294967295 }
+    requires other_end_fits { payloads.other + payloads.exif + payloads.gain.sample + payloads.gain.xmp ≤ 4294967295 }
     ensures { Boxed out.old (8 + iloc_size (form_of form) s) (iloc (form_of form) (placed s payloads color.now alpha.now) ∷ []) out.new }
 {
     let color_ids = s.color();

@@ -1,5 +1,5 @@
 // The entries of iloc.
-ghost use Rattle.std.specs.Prelude.{◌≡◌, cond, is_some, option_map, option_to_list, ◌+◌, ◌*◌, ◌<◌, length};
+ghost use Rattle.std.specs.Prelude.{◌≡◌, cond, is_some, option_map, option_to_list, ◌+◌, ◌*◌, ◌≤◌, length};
 ghost use mathlib.Core.List.{flat_map};
 ghost use Rattle.octets.specs.Numbers.{total};
 ghost use Rattle.octets.specs.Stores.{Room, Wrote};
@@ -39,14 +39,14 @@ pub(crate) struct Location {
     pub size: u32,
 }
 
-// Items whose ids follow one another, and whose payloads lie back to back in the file from `offset` on.
+// Items whose ids follow one another, and whose payloads lie back to back in the file from `offset` on, up to an end that 32 bits hold.
 #[derive(Clone, Copy)]
 pub(crate) struct Batch<'a> {
     pub ids: Ids,
     pub offset: u32,
     pub lengths: &'a [u32],
     ghost counted: { ids.count ≡ length lengths.now },
-    ghost end_fits: { offset + total lengths.now < 4294967296 },
+    ghost end_fits: { offset + total lengths.now ≤ 4294967295 },
 }
 
 // The entry of an item in the ordinary form: its id, its construction method, data reference 0, and its one extent. It takes no `Location`,
@@ -86,7 +86,7 @@ pub(crate) fn write_given_location(out: &mut Output, form: FileForm, l: Option<L
     }
 }
 
-// The entries of a batch's items.
+// The entries of a batch's items. The position that runs through their payloads is held in 32 bits: it ends where the batch does.
 pub(crate) fn write_file_locations(out: &mut Output, form: FileForm, batch: Batch)
     requires { Room out.old (entry_size (form_of form) * length batch.lengths.now) }
     ensures { let b = batch.entry in Wrote out.old (entry_size (form_of form) * length b.lengths.now) (entries (form_of form) b.ids.first.0 b.offset b.lengths.now) out.new }

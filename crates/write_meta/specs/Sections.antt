@@ -1,5 +1,5 @@
 -- meta of items, locations and places that its writer is handed, how many bytes it takes, and what it asks of a layout.
-use Rattle.std.specs.Prelude.{◌≡◌, true, [], ◌∷◌, ℕ, ◌+◌, ◌<◌, ◌≤◌, length, List}
+use Rattle.std.specs.Prelude.{◌≡◌, true, [], ◌∷◌, ℕ, ◌+◌, ◌≤◌, length, List}
 use Rattle.octets.specs.Numbers.{◌‖◌, total}
 use Rattle.octets.specs.Boxes.{Box, box, full, boxes}
 use Rattle.panel.specs.Panel.{Panel}
@@ -55,6 +55,6 @@ pub record Sections (f : Form) (p : Panel) (y : Layout) (s : Shape) (z : Places)
   -- both pictures have a sample for each tile, and the payloads end within 32 bits
   pub tiles : length p.tiles.lengths ≡ s.tiles
   pub alphas : length p.alpha.lengths ≡ s.tiles
-  pub tiles_end : y.payloads.color + total p.tiles.lengths < 4294967296
-  pub alphas_end : y.payloads.alpha + total p.alpha.lengths < 4294967296
-  pub others_end : y.payloads.other + (y.payloads.exif + (y.payloads.gain.sample + y.payloads.gain.xmp)) < 4294967296
+  pub tiles_end : y.payloads.color + total p.tiles.lengths ≤ 4294967295
+  pub alphas_end : y.payloads.alpha + total p.alpha.lengths ≤ 4294967295
+  pub others_end : y.payloads.other + y.payloads.exif + y.payloads.gain.sample + y.payloads.gain.xmp ≤ 4294967295

@@ -37,7 +37,7 @@ returns c =
       idat = omega (arith, s.idat, length-idat p.dims);
       meta = omega (arith, s.meta, length-meta f at p even);
       mdat = omega (arith, s.mdat, length-mdat p even);
-      payloads = c.payloads_of.ensures (omega (arith, c.requires.file, s.mdat)) ∙ ap (λ (n : ℕ). payloads_from n p) begins;
+      payloads = c.payloads_of.ensures ∙ ap (λ (n : ℕ). payloads_from n p) begins;
       color_rext = c.hvcc_uses_rext.ensures;
       gain_rext = c.gain_uses_rext.ensures;
     }

@@ -16,7 +16,7 @@ loop-id-init c =
     let ids = c.zip-id-items.ensures.first in
     let rest = c.zip-id-items.ensures.second.0 in
     rw (c.into_iter-id-iterator.ensures.into_iter_gives, ids, rest, c.range.ensures.start, c.range.ensures.end)
-    (record { counted = omega (arith, c.args.batch.counted); fits = c.args.batch.end_fits; room = c.requires; owed = owes refl })
+    (record { counted = omega (arith, c.args.batch.counted); end = refl; room = c.requires; owed = owes refl })
 
 pub write_location-requires : goal.write_location-requires
 write_location-requires c =
@@ -25,7 +25,7 @@ write_location-requires c =
     omega (arith, room, mul-suc k (length (iter_rest c.next.new.self.b)))
 
 pub overflow_add-offset : goal.overflow_add-offset
-overflow_add-offset c = omega (arith, rw c.in-Some.ensures.steps.1 at c.loop-id.invariant.fits)
+overflow_add-offset c = omega (arith, rw c.in-Some.ensures.steps.1 at c.loop-id.invariant.end, c.args.batch.end_fits)
 
 pub loop-id-preserved : goal.loop-id-preserved
 loop-id-preserved c =
@@ -34,12 +34,13 @@ loop-id-preserved c =
     let before = rw c.in-Some.ensures.steps.1 at c.loop-id.invariant in
     let rest = iter_rest c.next.new.self.b in
     let more = mul-suc (entry_size f) (length rest) in
-    let bytes = entries_more f c.loop-id.id-iterator.a.start c.loop-id.offset c.in-Some.field-0-1.now rest in
+    let id = c.loop-id.id-iterator.a.start in
+    let size = c.in-Some.field-0-1.now in
     record {
       counted = omega (arith, before.counted, ids.0, ids.1.2);
-      fits = omega (arith, before.fits);
+      end = omega (arith, before.end);
       room = omega (arith, before.room, more, c.write_location.ensures.end, c.write_location.ensures.kept);
-      owed = rw ids.1.2 (turn before.owed (rw ids.1.1 at c.write_location.ensures) bytes (omega (arith, more)));
+      owed = rw ids.1.2 (turn before.owed (rw ids.1.1 at c.write_location.ensures) (entries_more f id c.loop-id.offset size rest (omega arith)) (omega (arith, more)));
     }
 
 pub returns : goal.returns

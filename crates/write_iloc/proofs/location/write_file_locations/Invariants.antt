@@ -1,6 +1,6 @@
 -- Each turn writes the first entry of what is owed, and the next begins where its payload ends.
 use mathlib.Core.Path.{◌≡◌}
-use Prim.Native.Nat.{◌+◌, ◌*◌, ◌<◌}
+use Prim.Native.Nat.{◌+◌, ◌*◌}
 use lib.ListN.{length}
 use Rattle.std.specs.Slice.Iter.{iter_rest}
 use Rattle.octets.specs.Numbers.{total}
@@ -20,7 +20,7 @@ invariant-loop-id l =
     let rest = iter_rest l.id-iterator.b in
     record {
       counted : l.id-iterator.a.end ≡ id + length rest;
-      fits : l.offset + total rest < 4294967296;
+      end : l.offset + total rest ≡ b.offset + total b.lengths.now;
       room : Room l.out (k * length rest);
       owed : Owes l.initial.out (k * length b.lengths.now) (entries f b.ids.first.0 b.offset b.lengths.now) l.out (k * length rest) (entries f id l.offset rest);
     }
