@@ -95,50 +95,124 @@ fn everything(run: &mut Run, zeros: &[u8]) {
     check(run, "everything at its longest", &panel);
 }
 
-/// Writes the longest file and compares it with upstream's. Takes about 13 GiB of memory.
+/// Writes two files of the greatest length, and compares each with upstream's. Takes 12.1 GiB of memory.
 pub fn write(run: &mut Run) {
-    let mut case = p();
-    let count = MOST - 555;
-    case.color_lengths = vec![count as u32];
-    case.color_samples = vec![0; count];
+    one_tile(run);
+    many_tiles(run);
+}
+
+/// As many bytes, of which one in each MiB and the last are not 0.
+fn striped(count: usize) -> Vec<u8> {
+    let mut bytes = vec![0; count];
     for at in (0..count).step_by(1 << 20) {
-        case.color_samples[at] = (at >> 20) as u8 | 1;
+        bytes[at] = (at >> 20) as u8 | 1;
     }
-    *case.color_samples.last_mut().expect("it is long") = 0xAA;
+    *bytes.last_mut().expect("there are some") = 0xAA;
+    bytes
+}
+
+/// P with a colour sample that makes its file as long as one may be, and then longer.
+fn one_tile(run: &mut Run) {
+    let mut case = p();
+    let count = MOST - 555; // P's file without its colour sample
+    (case.color_lengths, case.color_samples) = (vec![count as u32], striped(count));
     println!("huge: P with a colour sample of {count} bytes, its last byte AA");
+    longest(run, "P", &case);
+    one_byte_more(run, "P", &mut case);
+    upstream_goes_on(run, &case, u32::MAX);
+    add_a_byte(&mut case);
+    upstream_goes_on(run, &case, 0);
+}
+
+/// Six tiles in each picture with everything optional but Exif, and all that comes last is empty: the last alpha tile,
+/// the gain image, its XMP and the tone map lie at the end of the file, at the greatest offset that 32 bits hold.
+fn many_tiles(run: &mut Run) {
+    let mut case = full().with_empty_grid(3, 2);
+    case.exif = None; // its payload has four bytes at least
+    let gain = case.gain.as_mut().expect("full has one");
+    (gain.sample, gain.xmp, gain.tmap) = (Vec::new(), Vec::new(), Some(Vec::new()));
+    let rest = predict::answer(&case.panel(), None).expect("it is short") as usize;
+    let mut lengths: Vec<usize> = (0..11).map(|k| (MOST - rest) / 11 - 7 * k).collect();
+    lengths[0] += MOST - rest - lengths.iter().sum::<usize>();
+    lengths.push(0);
+    let lengths: Vec<u32> = lengths.into_iter().map(|n| n as u32).collect();
+    let (color, alpha) = lengths.split_at(6);
+    let sum = |lengths: &[u32]| lengths.iter().map(|&n| n as usize).sum();
+    (case.color_lengths, case.color_samples) = (color.to_vec(), striped(sum(color)));
+    (case.alpha_lengths, case.alpha_samples) = (alpha.to_vec(), striped(sum(alpha)));
+    println!("huge: 3 × 2 tiles with colour samples of {color:?} bytes and alpha samples of {alpha:?}");
+    if let Some(file) = longest(run, "3 × 2 tiles", &case) {
+        for (what, id) in [("the last alpha tile", 13), ("the gain image", 15), ("its XMP", 16), ("the tone map", 17)] {
+            let offset = offset_of(&file, id);
+            println!("huge: {what}, which is empty, lies at {offset}");
+            if offset != u32::MAX {
+                run.fail("3 × 2 tiles", &format!("{what} does not lie at the end of the file"), &offset);
+            }
+        }
+    }
+    one_byte_more(run, "3 × 2 tiles", &mut case);
+}
+
+/// The file of a panel, which has the greatest length, if it is upstream's.
+fn longest(run: &mut Run, name: &str, case: &Case) -> Option<Vec<u8>> {
     *run.panels.entry(0).or_default() += 1;
     let file = match kahopiru::to_vec(&case.panel()) {
         Ok(file) => file,
-        Err(refusal) => return run.fail("the longest file", &refusal.to_string(), &case.dims),
+        Err(refusal) => {
+            run.fail(name, &refusal.to_string(), &case.dims);
+            return None;
+        }
     };
     println!("huge: written, {} bytes; the last two are {:02X?}", file.len(), &file[file.len() - 2..]);
-    match crate::upstream::write(&case) {
-        Ok(theirs) if theirs == file => println!("huge: upstream's file is the same, byte for byte"),
-        Ok(theirs) => run.fail("the longest file", "is not upstream's", &theirs.len()),
-        Err(why) => run.fail("the longest file", &format!("upstream: {why}"), &case.dims),
+    if file.len() != MOST {
+        run.fail(name, "is not as long as a file may be", &file.len());
     }
-    drop(file);
-    *run.panels.entry(5).or_default() += 1;
+    match crate::upstream::write(case) {
+        Ok(theirs) if theirs == file => {
+            println!("huge: upstream's file is the same, byte for byte");
+            Some(file)
+        }
+        Ok(theirs) => {
+            run.fail(name, "is not upstream's", &theirs.len());
+            None
+        }
+        Err(why) => {
+            run.fail(name, &format!("upstream: {why}"), &case.dims);
+            None
+        }
+    }
+}
+
+fn add_a_byte(case: &mut Case) {
     case.color_lengths[0] += 1;
     case.color_samples.push(0);
+}
+
+/// With one byte more the panel of a longest file is refused, and the output is as it was.
+fn one_byte_more(run: &mut Run, name: &str, case: &mut Case) {
+    *run.panels.entry(5).or_default() += 1;
+    add_a_byte(case);
+    let length = kahopiru::file_length(&case.panel()).map_err(Refusal::number);
     let mut out = [0x5A; 600];
     let answer = kahopiru::write(&case.panel(), &mut out).map_err(Refusal::number);
     println!("huge: one byte more gives {answer:?}");
-    if answer != Err(5) || out != [0x5A; 600] {
-        run.fail("one byte more", "is not refused with 5, or touches the output", &case.dims);
+    if length != Err(5) || answer != Err(5) || out != [0x5A; 600] {
+        run.fail(name, "with one byte more is not refused with 5, or touches the output", &case.dims);
     }
-    upstream_goes_on(run, &case, u32::MAX);
-    case.color_lengths[0] += 1;
-    case.color_samples.push(0);
-    upstream_goes_on(run, &case, 0);
+}
+
+/// Where iloc says that the payload of an item lies, in a file of the ordinary form.
+fn offset_of(file: &[u8], id: usize) -> u32 {
+    let iloc = file.windows(4).position(|four| four == b"iloc").expect("a file has one");
+    let entries = iloc + 12; // behind the type, the version, the sizes and the count
+    file[entries + 16 * (id - 1) + 8..][..4].iter().fold(0, |n, byte| n << 8 | u32::from(*byte))
 }
 
 /// What upstream writes for a panel like P whose file is too long, and where iloc then says that the alpha tile lies.
 fn upstream_goes_on(run: &mut Run, case: &Case, expected: u32) {
-    let alpha_offset = 87 + 16 + 2 * 16 + 8; // iloc, its head, the entries of two items, and in the third what comes before the offset
     match crate::upstream::write(case) {
         Ok(theirs) => {
-            let offset = theirs[alpha_offset..][..4].iter().fold(0u32, |n, byte| n << 8 | u32::from(*byte));
+            let offset = offset_of(&theirs, 3);
             println!("huge: upstream writes {} bytes, with the alpha tile at {offset}", theirs.len());
             if offset != expected {
                 run.fail("upstream beyond the longest file", "has another offset", &offset);

@@ -43,7 +43,7 @@ const HELP: &str = "usage: differential [--seed N] [--long] [--huge]
 
   --seed N   draw other random panels (the seed is printed with each run)
   --long     draw 1,000,000 random panels instead of 100,000
-  --huge     also write a file of 4,294,967,295 bytes (takes about 13 GiB of memory)
+  --huge     also write two files of 4,294,967,295 bytes (takes 12.1 GiB of memory)
   vectors    print a fixed list of upstream's files: name, sheet and file in hexadecimal
   stored     print what the program crate program_files must write, from upstream's files";
 
