@@ -4,9 +4,10 @@
 #
 # A path is every word with a slash, or that ends as a file's name does, in backticks or not. Those in docs/ leave out `crates/`, and an
 # edit's ending; a file's name without a folder is some crate's file. A name is what stands in backticks, or each word of it where it is a
-# formula, and is defined in the crates, the bindings or the tests: a function, type, variant, law or record, or a crate. Where the name is
-# given its crate (`crate::name`) or its place in a folder (`name` (folder/file)), it is defined there. Bytes (`00 AA`) are no names. Blocks
-# of code are not looked at, but for the dumps and the shell lines that make a sheet; readme.sh tries those of README.md.
+# formula, and is defined in the crates, the bindings or the tests: a function, type, variant, law or record, what a struct requires of its
+# fields, or a crate. Where the name is given its crate (`crate::name`) or its place in a folder (`name` (folder/file)), it is defined there.
+# Bytes (`00 AA`) are no names. Blocks of code are not looked at, but for the dumps and the shell lines that make a sheet; readme.sh tries
+# those of README.md.
 set -euo pipefail
 cd "$(dirname "$0")/.."
 
@@ -49,6 +50,7 @@ defined() {
     find crates bindings tests \( -name '*.rt' -o -name '*.rs' \) -exec awk '
         /^ *\/\// { next }
         match($0, /(fn|struct|enum|trait|const|type) +[A-Za-z_0-9]+/) { split(substr($0, RSTART, RLENGTH), word, / +/); print word[2], FILENAME }
+        /^ *ghost [a-z_]+: / { sub(/:$/, "", $2); print $2, FILENAME }
         /^ *(pub )?enum .*\{$/ { variants = 1; next }
         /^ *\}/ { variants = 0 }
         variants && match($0, /^ *[A-Z][A-Za-z0-9]*/) { name = substr($0, 1, RLENGTH); gsub(/ /, "", name); print name, FILENAME }' {} +
