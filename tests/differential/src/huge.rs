@@ -5,6 +5,7 @@ use crate::memory::Zeros;
 use crate::panels::{full, p, Case};
 use crate::predict;
 use crate::run::Run;
+use crate::tiles::located;
 use kahopiru::{Panel, Refusal, Samples};
 
 const MOST: usize = 4_294_967_295;
@@ -119,7 +120,7 @@ fn one_tile(run: &mut Run) {
     println!("huge: P with a colour sample of {count} bytes, its last byte AA");
     longest(run, "P", &case);
     one_byte_more(run, "P", &mut case);
-    upstream_goes_on(run, &case, u32::MAX);
+    upstream_goes_on(run, &case, MOST);
     add_a_byte(&mut case);
     upstream_goes_on(run, &case, 0);
 }
@@ -143,10 +144,10 @@ fn many_tiles(run: &mut Run) {
     println!("huge: 3 × 2 tiles with colour samples of {color:?} bytes and alpha samples of {alpha:?}");
     if let Some(file) = longest(run, "3 × 2 tiles", &case) {
         for (what, id) in [("the last alpha tile", 13), ("the gain image", 15), ("its XMP", 16), ("the tone map", 17)] {
-            let offset = offset_of(&file, id);
-            println!("huge: {what}, which is empty, lies at {offset}");
-            if offset != u32::MAX {
-                run.fail("3 × 2 tiles", &format!("{what} does not lie at the end of the file"), &offset);
+            let place = located(&file, id);
+            println!("huge: {what} lies at {place:?}, offset and length");
+            if place != Some((MOST, 0)) {
+                run.fail("3 × 2 tiles", &format!("{what} is not empty and at the end of the file"), &place);
             }
         }
     }
@@ -201,21 +202,14 @@ fn one_byte_more(run: &mut Run, name: &str, case: &mut Case) {
     }
 }
 
-/// Where iloc says that the payload of an item lies, in a file of the ordinary form.
-fn offset_of(file: &[u8], id: usize) -> u32 {
-    let iloc = file.windows(4).position(|four| four == b"iloc").expect("a file has one");
-    let entries = iloc + 12; // behind the type, the version, the sizes and the count
-    file[entries + 16 * (id - 1) + 8..][..4].iter().fold(0, |n, byte| n << 8 | u32::from(*byte))
-}
-
 /// What upstream writes for a panel like P whose file is too long, and where iloc then says that the alpha tile lies.
-fn upstream_goes_on(run: &mut Run, case: &Case, expected: u32) {
+fn upstream_goes_on(run: &mut Run, case: &Case, expected: usize) {
     match crate::upstream::write(case) {
         Ok(theirs) => {
-            let offset = offset_of(&theirs, 3);
-            println!("huge: upstream writes {} bytes, with the alpha tile at {offset}", theirs.len());
-            if offset != expected {
-                run.fail("upstream beyond the longest file", "has another offset", &offset);
+            let place = located(&theirs, 3);
+            println!("huge: upstream writes {} bytes, with the alpha tile at {place:?}", theirs.len());
+            if place != Some((expected, 1)) {
+                run.fail("upstream beyond the longest file", "has the alpha tile elsewhere", &place);
             }
         }
         Err(why) => run.fail("upstream beyond the longest file", &why, &case.dims),
