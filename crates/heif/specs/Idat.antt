@@ -7,16 +7,16 @@ use Rattle.panel.specs.declared.GridDims.{GridDims}
 -- ---- the descriptor of a grid: version 0, flags, rows − 1, columns − 1, and the size in 16 bits, or with flag 2 in 32
 
 abbrev pub descriptor_of : Bool → GridDims → List ℕ
-descriptor_of large d =
-    let k = cond {A = ℕ} large 4 2 in
-    be 1 0 ‖ be 1 (cond large 2 0) ‖ be 1 (d.rows - 1) ‖ be 1 (d.cols - 1) ‖ be k d.full_w ‖ be k d.full_h
+descriptor_of long d =
+    let k = cond {A = ℕ} long 4 2 in
+    be 1 0 ‖ be 1 (cond long 2 0) ‖ be 1 (d.rows - 1) ‖ be 1 (d.cols - 1) ‖ be k d.full_w ‖ be k d.full_h
 
 -- a side is above 65,535
-abbrev pub wide : GridDims → Bool
-wide d = ltb 65535 d.full_w || ltb 65535 d.full_h
+abbrev pub large : GridDims → Bool
+large d = ltb 65535 d.full_w || ltb 65535 d.full_h
 
 abbrev pub descriptor : GridDims → List ℕ
-descriptor d = descriptor_of (wide d) d
+descriptor d = descriptor_of (large d) d
 
 -- the descriptor of each grid
 abbrev pub idat : GridDims → Box
@@ -25,7 +25,7 @@ idat d = box "idat" (descriptor d ‖ descriptor d)
 -- ---- how many bytes its body has
 
 abbrev pub descriptor_size : GridDims → ℕ
-descriptor_size d = cond (wide d) 12 8
+descriptor_size d = cond (large d) 12 8
 
 abbrev pub idat_size : GridDims → ℕ
 idat_size d = 2 * descriptor_size d

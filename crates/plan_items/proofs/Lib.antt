@@ -1,1 +1,1 @@
-pub mod Wide
+pub mod Large

@@ -1,6 +1,6 @@
 // The grid of tiles, and its descriptor: whether it is the long one, and its length.
 ghost use Rattle.std.specs.Prelude.{◌≡◌, ◌-◌, ◌≤◌};
-ghost use Rattle.heif.specs.Idat.{wide, descriptor_size};
+ghost use Rattle.heif.specs.Idat.{large, descriptor_size};
 ghost use Rattle.plan_items.specs.Grid.{Sided};
 
 use panel::GridDims;
@@ -57,8 +57,8 @@ impl Grid {
 }
 
 // Whether the whole picture is wider or higher than 16 bits can say.
-pub fn is_wide(d: GridDims) -> bool
-    ensures { result ≡ wide d }
+pub fn is_large(d: GridDims) -> bool
+    ensures { result ≡ large d }
 {
     d.full_w > 65535 || d.full_h > 65535
 }
@@ -68,5 +68,5 @@ pub fn descriptor_length(d: GridDims) -> u32
     ensures value { result ≡ descriptor_size d }
     ensures upper_bound { result ≤ 12 }
 {
-    if is_wide(d) { 12 } else { 8 }
+    if is_large(d) { 12 } else { 8 }
 }

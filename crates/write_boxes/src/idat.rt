@@ -6,7 +6,7 @@ ghost use Rattle.heif.specs.Idat.{descriptor, descriptor_size, idat, idat_size};
 
 use octets::Output;
 use panel::when::when;
-use plan_items::grid::{Grid, is_wide};
+use plan_items::grid::{Grid, is_large};
 
 // The first four bytes of a grid's descriptor.
 fn write_grid_head(out: &mut Output, flags: u8, grid: Grid)
@@ -38,7 +38,7 @@ fn write_descriptor(out: &mut Output, grid: Grid)
     ensures { Wrote out.old (descriptor_size grid) (descriptor grid) out.new }
 {
     let d = grid.dims();
-    let large = is_wide(d);
+    let large = is_large(d);
     write_grid_head(out, when(large, 2) as u8, grid);
     write_side(out, large, d.full_w);
     write_side(out, large, d.full_h);
