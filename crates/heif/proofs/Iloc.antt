@@ -71,7 +71,7 @@ pub length-entry : (f : Form) (l : Location) → length (entry f l) ≡ entry_si
 length-entry f l =
     omega (arith, length-append (be f.id l.id) (be 2 l.method ‖ be 2 0 ‖ be 2 1 ‖ be 4 l.extent.offset ‖ be 4 l.extent.size), length-be f.id l.id)
 
-length-locations : (at : ℕ) (p : Panel) → Even p → length (locations at p) ≡ last_id (shape p)
+pub length-locations : (at : ℕ) (p : Panel) → Even p → length (locations at p) ≡ last_id (shape p)
 length-locations at p h =
     ap length (locations_runs at p h.counts)
     ∙ simp (length-append, length-located, length-extents, length-samples, length-exif_payload, length-gain_payloads) (omega arith)

@@ -1,6 +1,7 @@
--- How many ids stand in a run, and how long a list is that is given only if so.
+-- How many ids stand in a run, and how long a list is that is given only if so; and what is there only beside something else.
 use mathlib.Core.Path.{◌≡◌, refl, ap, ◌∙◌}
 use mathlib.Core.Bool.{Bool, true, false, cond}
+use Rattle.std.specs.Prelude.{Option, None, Some, is_some}
 use mathlib.Core.List.{List, []}
 use Prim.Native.Nat.{ℕ, zero, suc, ◌+◌, ◌*◌}
 use native.Mathlib.Nat.{zero-mul}
@@ -8,7 +9,8 @@ use lib.ListN.{length}
 use Rattle.octets.specs.Boxes.{Box, boxes}
 use Rattle.octets.proofs.Lists.{length-cond}
 use Rattle.octets.proofs.Boxes.{length_none, sizes, length-sizes}
-use Rattle.panel.specs.Parts.{given}
+use Rattle.panel.specs.Panel.{Gain}
+use Rattle.panel.specs.Parts.{given, tone_of}
 use Rattle.heif.specs.Items.{ids_from}
 
 pub length-ids_from : (n k : ℕ) → length (ids_from n k) ≡ k
@@ -35,3 +37,8 @@ times_given false n k = zero-mul k
 pub plus_given : (b : Bool) (m n : ℕ) → cond b (m + n) 0 ≡ cond b m 0 + cond b n 0
 plus_given true m n = refl
 plus_given false m n = refl
+
+-- a tone map comes with a gain map
+pub toned : (g : Option Gain) → is_some (tone_of g) ≡ true → is_some g ≡ true
+toned None e = e
+toned (Some g) e = refl

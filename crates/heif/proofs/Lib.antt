@@ -20,4 +20,6 @@ pub mod Grpl
 pub mod Meta
 pub mod File
 pub mod Refusal
+pub mod Few
+pub mod Uncut
 pub mod Aperture

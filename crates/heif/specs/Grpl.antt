@@ -6,7 +6,7 @@ use Rattle.panel.specs.Parts.{given}
 use Rattle.panel.specs.declared.Shape.{Shape}
 use Rattle.heif.specs.Items.{colour_grid, tone_id}
 
--- the tone map or else the colour grid is shown; the group's id is the first that no item has
+-- the tone map or else the colour grid is shown; the group's id is the first that no item has. All ids have 32 bits
 abbrev pub altr : ℕ → ℕ → Box
 altr tone grid = full "altr" 0 0 (be 4 (tone + 1) ‖ be 4 2 ‖ be 4 tone ‖ be 4 grid)
 

@@ -8,7 +8,8 @@ use Rattle.panel.specs.Parts.{given}
 use Rattle.panel.specs.declared.Shape.{Shape}
 use Rattle.heif.specs.Items.{ids_from, colour_grid, alpha_tile, alpha_grid, exif_id, gain_id, last_id, xmp_id, tone_id}
 
--- flags 1 hide the item. Its id, protection index 0, its type, an empty name; of a mime item the content type
+-- flags 1 hide the item. Its id, protection index 0, its type, an empty name; of a mime item the content type. Types are there from
+-- version 2 on; in that version the id has 16 bits, in version 3 it has 32
 abbrev pub infe : Form → ℕ → ℕ → String → List ℕ → Box
 infe f flags id type more = full "infe" (2 + f.step) flags (be f.id id ‖ be 2 0 ‖ text type ‖ be 1 0 ‖ more)
 
@@ -32,6 +33,7 @@ gain_infes f s =
 abbrev pub infes : Form → Shape → List Box
 infes f s = colour_infes f s ‖ alpha_infes f s ‖ given s.exif (infe f 0 (exif_id s) "Exif" [] ∷ []) ‖ gain_infes f s
 
+-- in version 0 the count has 16 bits, in version 1 it has 32
 abbrev pub iinf : Form → Shape → Box
 iinf f s = full "iinf" f.step 0 (be f.count (length (infes f s)) ‖ boxes (infes f s))
 

@@ -47,7 +47,8 @@ locations at p =
 abbrev pub entry : Form → Location → List ℕ
 entry f l = be f.id l.id ‖ be 2 l.method ‖ be 2 0 ‖ be 2 1 ‖ be 4 l.extent.offset ‖ be 4 l.extent.size
 
--- offsets and lengths of 4 bytes, no base offset and no index; then the entries
+-- offsets and lengths of 4 bytes, no base offset and no index; then the entries. Construction methods are there from version 1 on; in that
+-- version the count and the ids have 16 bits, in version 2 they have 32
 abbrev pub iloc : Form → List Location → Box
 iloc f l = full "iloc" (1 + f.step) 0 (be 1 0x44 ‖ be 1 0x00 ‖ be f.count (length l) ‖ flat_map (entry f) l)
 

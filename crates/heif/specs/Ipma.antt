@@ -81,6 +81,7 @@ associations s its = colour_associations s its ‖ alpha_associations s its ‖ 
 abbrev pub association : Form → Association → List ℕ
 association f a = be f.id a.id ‖ be 1 (length a.properties) ‖ a.properties
 
+-- the count of entries has 32 bits in each version; in version 0 an id has 16, in version 1 it has 32. Flags 0: an association has 8 bits
 abbrev pub ipma : Form → List Association → Box
 ipma f l = full "ipma" f.step 0 (be 4 (length l) ‖ flat_map (association f) l)
 

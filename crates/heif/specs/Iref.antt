@@ -9,7 +9,7 @@ use Rattle.panel.specs.Parts.{given}
 use Rattle.panel.specs.declared.Shape.{Shape}
 use Rattle.heif.specs.Items.{ids_from, colour_grid, alpha_tile, alpha_grid, exif_id, gain_id, xmp_id, tone_id}
 
--- from one item to others; their count takes 16 bits in every form
+-- from one item to others. The box that holds it says by its version how many bits an id has; their count has 16 in each version
 abbrev pub reference : Form → String → ℕ → List ℕ → Box
 reference f type from to = box type (be f.id from ‖ be 2 (length to) ‖ flat_map (be f.id) to)
 
@@ -28,6 +28,7 @@ references f s =
     ∷ given s.exif (reference f "cdsc" (exif_id s) (colour_grid s ∷ []) ∷ [])
     ‖ gain_references f s
 
+-- in version 0 the ids have 16 bits, in version 1 they have 32
 abbrev pub iref : Form → Shape → Box
 iref f s = full "iref" f.step 0 (boxes (references f s))
 

@@ -24,4 +24,5 @@ pub mod Grpl
 pub mod Meta
 pub mod File
 pub mod Refusal
+pub mod Uncut
 pub mod Answer

@@ -6,7 +6,7 @@ use Rattle.panel.specs.Form.{Form}
 use Rattle.panel.specs.declared.Shape.{Shape}
 use Rattle.heif.specs.Items.{colour_grid}
 
--- the colour grid
+-- the colour grid. In version 0 its id has 16 bits, in version 1 it has 32
 abbrev pub pitm : Form → Shape → Box
 pitm f s = full "pitm" f.step 0 (be f.id (colour_grid s))
 

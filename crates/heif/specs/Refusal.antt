@@ -51,7 +51,8 @@ bad_sum t = differ (total t.lengths) (length t.bytes)
 abbrev pub bad_id : ℕ → ℕ → Bool
 bad_id k id = leb (2 ^ (8 * k)) id
 
--- the last id does not fit in the form's id, or the tiles are more than the 16 bits of a reference's count hold
+-- the last id does not fit in the form's id, or the tiles are more than the 16 bits of a reference's count hold. In the ordinary form the
+-- first alone decides, in the wide form the second: `ordinary-items` and `wide-items` in proofs/
 abbrev pub bad_items : Form → Shape → Bool
 bad_items f s = bad_id f.id (last_id s) || ltb 65535 s.tiles
 

@@ -1,2 +1,3 @@
 pub mod Extras
 pub mod Shares
+pub mod Widened

@@ -13,7 +13,7 @@ use Rattle.panel.specs.Types.{bits}
 use Rattle.panel.specs.declared.fmt.BitDepth.{BitDepth}
 use Rattle.panel.specs.Agreement.{norm, Agree}
 use Rattle.panel.specs.Widths.{DimsFit, Fits}
-use Rattle.panel.specs.Form.{ordinary}
+use Rattle.panel.specs.Form.{ordinary, wide}
 use Rattle.heif.specs.File.{file}
 use Rattle.heif.specs.Aperture.{whole, ◌is◌, first_column}
 use Rattle.heif.specs.Refusal.{refusal}
@@ -44,6 +44,21 @@ stated_agrees = record { same = refl }
 
 pub stated_differs : panel_p ≡ panel_p_stated → ⊥
 stated_differs e = let z : ◌≡◌ {A = ℕ} 0 1 = ap (λ (p : Panel). length (option_to_list p.colour.cicp)) e in omega arith
+
+-- so that they have one wide file
+wide_panel_p-accepted : refusal wide panel_p ≡ 0
+unfolding boxes flatten flat_map file refusal
+wide_panel_p-accepted = refl
+
+panel_p_stated-fits : Fits panel_p_stated
+panel_p_stated-fits = record { dims = panel_p-dims; visible = tt; light = tt; gain = tt }
+
+panel_p_stated-accepted : refusal wide panel_p_stated ≡ 0
+unfolding boxes flatten flat_map file refusal
+panel_p_stated-accepted = refl
+
+pub stated_wide : file wide panel_p ≡ file wide panel_p_stated
+stated_wide = (same_files wide panel_p panel_p_stated panel_p-fits panel_p_stated-fits wide_panel_p-accepted panel_p_stated-accepted).1 stated_agrees
 
 -- one sample byte
 pub other-bytes : file ordinary panel_p ≡ file ordinary panel_p_other → ⊥

@@ -1,5 +1,5 @@
 -- Panel P, of one tile and nothing optional, and the panels that differ from it in a field or two.
-use Rattle.std.specs.Prelude.{Option, None, Some, List, [], ◌∷◌, ℕ, replicate}
+use Rattle.std.specs.Prelude.{Option, None, Some, List, [], ◌∷◌, ℕ, ◌*◌, replicate}
 use Rattle.panel.specs.Panel.{Colour, Metadata, Gain, Panel}
 use Rattle.panel.specs.Types.{unspecified}
 use Rattle.panel.specs.declared.GridDims.{GridDims}
@@ -40,8 +40,8 @@ panel_p = column 1 64 0xAA unstated plain None
 abbrev pub panel_p_rows : ℕ → Panel
 panel_p_rows n = column n 64 0xAA unstated plain None
 
-abbrev pub panel_p_wide : ℕ → Panel
-panel_p_wide w = column 1 w 0xAA unstated plain None
+abbrev pub panel_p_of_width : ℕ → Panel
+panel_p_of_width w = column 1 w 0xAA unstated plain None
 
 abbrev pub panel_p_transpose : Panel
 panel_p_transpose = column 1 64 0xAA unstated (said Transpose None None) None
@@ -74,6 +74,33 @@ panel_p_tone =
 -- the panel with another grid
 abbrev pub on_grid : GridDims → Panel → Panel
 on_grid d p = record { dims = d; visible = p.visible; depth = p.depth; alpha_depth = p.alpha_depth; tiles = p.tiles; alpha = p.alpha; colour = p.colour; metadata = p.metadata; gain = p.gain }
+
+-- a panel of so many columns and rows of tiles, with every part that there can be
+abbrev pub full_panel : ℕ → ℕ → Panel
+full_panel cols rows =
+    let n = rows * cols in
+    let both : Colour = record { cicp = Some unspecified; icc = Some (0x11 ∷ []) } in
+    record {
+      dims = record { cols = cols; rows = rows; tile_w = 64; tile_h = 64; full_w = cols * 63; full_h = rows * 63 };
+      visible = Some (record { w = 63; h = 63 });
+      depth = Eight;
+      alpha_depth = Eight;
+      tiles = record { hvcc = 0x01 ∷ 0x01 ∷ []; lengths = replicate n 1; bytes = replicate n 0xAA };
+      alpha = record { hvcc = 0x01 ∷ 0x04 ∷ []; lengths = replicate n 1; bytes = replicate n 0xBB };
+      colour = both;
+      metadata = said Transpose some_light (Some (0x21 ∷ []));
+      gain = Some (record {
+        hvcc = 0x01 ∷ 0x01 ∷ [];
+        sample = 0x31 ∷ [];
+        width = 1;
+        height = 1;
+        depth = Eight;
+        cicp = unspecified;
+        xmp = 0x41 ∷ [];
+        tone = Some (0x51 ∷ []);
+        alternate = Some both;
+      });
+    }
 
 -- P with other sizes, of its tile and of its picture
 abbrev pub panel_p_sized : ℕ → ℕ → ℕ → ℕ → Panel

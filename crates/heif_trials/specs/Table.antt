@@ -1,5 +1,5 @@
--- The lettered trials, (a) to (k), with those of the Exif's marker and of the alpha depth, in one table with those of sizes and of a
--- visible size.
+-- The lettered trials, (a) to (k), with those of the Exif's marker and of the alpha depth, in one table with those of sizes, of a visible
+-- size and of the wide form.
 use Rattle.std.specs.Prelude.{List, [], ◌∷◌}
 use Rattle.octets.specs.Numbers.{◌‖◌, be, text}
 use Rattle.panel.specs.declared.fmt.BitDepth.TheVariants.{Eight, Twelve}
@@ -7,6 +7,7 @@ use Rattle.heif_trials.specs.Panels
 use Rattle.heif_trials.specs.Trials.{box_at, bytes_at, item, payload, property, associated, Trial, fits, refuses}
 use Rattle.heif_trials.specs.Sizes.{sizes}
 use Rattle.heif_trials.specs.Visible.{visible}
+use Rattle.heif_trials.specs.Wide.{wide_trials}
 
 -- (a) P: the brand, the twelve boxes, and the two samples
 abbrev pub a : Trial
@@ -36,7 +37,7 @@ b = refuses Panels.panel_p 555 6
 -- (c) P, tile_w and full_w 65,535: both descriptors in 16 bits
 abbrev pub c : Trial
 c =
-    fits (Panels.panel_p_wide 65535) 556
+    fits (Panels.panel_p_of_width 65535) 556
     (box_at "idat" 522 24
     ∷ bytes_at 530 (0x00 ∷ 0x00 ∷ 0x00 ∷ 0x00 ∷ 0xFF ∷ 0xFF ∷ 0x00 ∷ 0x40 ∷ [])
     ∷ bytes_at 538 (0x00 ∷ 0x00 ∷ 0x00 ∷ 0x00 ∷ 0xFF ∷ 0xFF ∷ 0x00 ∷ 0x40 ∷ [])
@@ -45,7 +46,7 @@ c =
 -- (d) P, tile_w and full_w 65,536: both in 32 bits
 abbrev pub d : Trial
 d =
-    fits (Panels.panel_p_wide 65536) 564
+    fits (Panels.panel_p_of_width 65536) 564
     (box_at "idat" 522 32
     ∷ bytes_at 530 (0x00 ∷ 0x02 ∷ 0x00 ∷ 0x00 ∷ 0x00 ∷ 0x01 ∷ 0x00 ∷ 0x00 ∷ 0x00 ∷ 0x00 ∷ 0x00 ∷ 0x40 ∷ [])
     ∷ bytes_at 542 (0x00 ∷ 0x02 ∷ 0x00 ∷ 0x00 ∷ 0x00 ∷ 0x01 ∷ 0x00 ∷ 0x00 ∷ 0x00 ∷ 0x00 ∷ 0x00 ∷ 0x40 ∷ [])
@@ -121,4 +122,4 @@ k_alpha_twelve =
     ∷ [])
 
 abbrev pub table : List Trial
-table = a ∷ b ∷ c ∷ d ∷ e ∷ f ∷ g ∷ h ∷ h_marked ∷ h_cut ∷ h_late ∷ i ∷ j ∷ k ∷ k_alpha_eight ∷ k_alpha_twelve ∷ sizes ‖ visible
+table = a ∷ b ∷ c ∷ d ∷ e ∷ f ∷ g ∷ h ∷ h_marked ∷ h_cut ∷ h_late ∷ i ∷ j ∷ k ∷ k_alpha_eight ∷ k_alpha_twelve ∷ sizes ‖ visible ‖ wide_trials

@@ -1,10 +1,10 @@
--- A trial: a panel with some room, what the writing call answers, and what its file shows.
+-- A trial: a form and a panel with some room, what the writing call answers, and what the file shows.
 use Rattle.std.specs.Prelude.{Bool, true, false, ◌&&◌, List, [], ◌∷◌, ℕ, ◌-◌, eqb, length, take, drop, get_or}
 use Prim.Native.String.{String}
 use Rattle.octets.specs.Numbers.{◌‖◌, be, text}
 use Rattle.octets.specs.Boxes.{Box, box, boxes, tag, kind}
 use Rattle.panel.specs.Panel.{Panel}
-use Rattle.panel.specs.Form.{ordinary}
+use Rattle.panel.specs.Form.{Form, ordinary}
 use Rattle.panel.specs.Outcome.{Outcome, made, refused}
 use Rattle.heif.specs.Items.{shape}
 use Rattle.heif.specs.Iloc.{Location, locations}
@@ -29,17 +29,23 @@ pub data Shown : Type 0 where
   associated : ℕ → List ℕ → Shown
 
 pub record Trial : Type 0 where
+  pub form : Form
   pub panel : Panel
   pub room : ℕ
   pub answer : Outcome
   pub shows : List Shown
 
--- exactly enough room
+-- in the ordinary form, with exactly enough room
 abbrev pub fits : Panel → ℕ → List Shown → Trial
-fits p n l = record { panel = p; room = n; answer = made n; shows = l }
+fits p n l = record { form = ordinary; panel = p; room = n; answer = made n; shows = l }
 
 abbrev pub refuses : Panel → ℕ → ℕ → Trial
-refuses p room k = record { panel = p; room = room; answer = refused k; shows = [] }
+refuses p room k = record { form = ordinary; panel = p; room = room; answer = refused k; shows = [] }
+
+infix 55 ◌in_form◌
+-- the trial in another form
+abbrev pub ◌in_form◌ : Trial → Form → Trial
+t in_form f = record { form = f; panel = t.panel; room = t.room; answer = t.answer; shows = t.shows }
 
 -- ---- tests
 
@@ -71,23 +77,23 @@ abbrev pub properties_of : ℕ → List Association → List ℕ
 properties_of id [] = []
 properties_of id (a ∷ l) = elim (eqb a.id id) [ true ↦ a.properties | false ↦ properties_of id l ]
 
--- bytes is the panel's file
-abbrev pub shown : Panel → List ℕ → Shown → Bool
-shown p bytes (box_at type offset size) = stands bytes offset (be 4 size ‖ tag (kind type))
-shown p bytes (bytes_at offset x) = stands bytes offset x
-shown p bytes (item id type) = stands (get_or (infes ordinary (shape p)) (id - 1) no_box).body 4 (be 2 id ‖ be 2 0 ‖ text type)
-shown p bytes (payload id x) = same (extent_of id bytes (locations (data_at ordinary p) p)) x
-shown p bytes (property position type body) = same (boxes (get_or (properties p) (position - 1) no_box ∷ [])) (boxes (box type body ∷ []))
-shown p bytes (associated id l) = same (properties_of id (associations (shape p) (positions 1 (slots p)))) l
+-- bytes is the panel's file in the form
+abbrev pub shown : Form → Panel → List ℕ → Shown → Bool
+shown f p bytes (box_at type offset size) = stands bytes offset (be 4 size ‖ tag (kind type))
+shown f p bytes (bytes_at offset x) = stands bytes offset x
+shown f p bytes (item id type) = stands (get_or (infes f (shape p)) (id - 1) no_box).body 4 (be f.id id ‖ be 2 0 ‖ text type)
+shown f p bytes (payload id x) = same (extent_of id bytes (locations (data_at f p) p)) x
+shown f p bytes (property position type body) = same (boxes (get_or (properties p) (position - 1) no_box ∷ [])) (boxes (box type body ∷ []))
+shown f p bytes (associated id l) = same (properties_of id (associations (shape p) (positions 1 (slots p)))) l
 
-abbrev pub all_shown : Panel → List ℕ → List Shown → Bool
-all_shown p bytes [] = true
-all_shown p bytes (s ∷ l) = shown p bytes s && all_shown p bytes l
+abbrev pub all_shown : Form → Panel → List ℕ → List Shown → Bool
+all_shown f p bytes [] = true
+all_shown f p bytes (s ∷ l) = shown f p bytes s && all_shown f p bytes l
 
 abbrev pub holds : Trial → Bool
 holds t =
-    let bytes = file ordinary t.panel in
-    same_outcome (write_answer ordinary t.panel t.room) t.answer && all_shown t.panel bytes t.shows
+    let bytes = file t.form t.panel in
+    same_outcome (write_answer t.form t.panel t.room) t.answer && all_shown t.form t.panel bytes t.shows
 
 abbrev pub all_hold : List Trial → Bool
 all_hold [] = true

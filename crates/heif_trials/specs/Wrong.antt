@@ -2,7 +2,7 @@
 use Rattle.std.specs.Prelude.{cond, List, [], ◌∷◌, map, ℕ, ◌+◌, eqb, length}
 use Rattle.octets.specs.Boxes.{boxes}
 use Rattle.panel.specs.Panel.{Panel}
-use Rattle.panel.specs.Form.{ordinary}
+use Rattle.panel.specs.Form.{Form, ordinary}
 use Rattle.panel.specs.Outcome.{Outcome, refused, outcome}
 use Rattle.heif.specs.Iloc.{Location, locations}
 use Rattle.heif.specs.Ftyp.{head}
@@ -10,7 +10,7 @@ use Rattle.heif.specs.Meta.{meta}
 use Rattle.heif.specs.Mdat.{mdat}
 use Rattle.heif.specs.File.{data_at, file}
 use Rattle.heif.specs.Refusal.{refusal}
-use Rattle.heif.specs.Answer.{write_answer, left, Result}
+use Rattle.heif.specs.Answer.{write_answer, left, after, Result}
 use Rattle.heif_trials.specs.Panels.{panel_p}
 
 abbrev pub refuses_all : Panel → List ℕ → Result
@@ -37,6 +37,10 @@ first_file p = boxes (head p ∷ meta ordinary (first_only (locations (data_at o
 
 abbrev pub first_offset : Panel → List ℕ → Result
 first_offset p old = let a = write_answer ordinary p (length old) in record { answer = a; output = left a (first_file p) old }
+
+-- the answer and the file of a form
+abbrev pub writes_as : Form → Panel → List ℕ → Result
+writes_as f p old = record { answer = write_answer f p (length old); output = after f p old }
 
 -- a length one too large
 abbrev pub invented : Panel → Outcome

@@ -1,4 +1,4 @@
--- Codes: the values of each colour enum, the code of a depth, an orientation, yes or no, and the one of a list that a code names.
+-- Codes: the values of each colour enum, the code of a depth, an orientation, a form, yes or no, and the one of a list that a code names.
 use Rattle.std.specs.Prelude.{Bool, true, false, cond, List, [], ◌∷◌, ℕ, eqb, Option, None, Some}
 use Rattle.panel.specs.Types.{primaries_code, transfer_code, matrix_code}
 use Rattle.panel.specs.declared.color.Primaries.{Primaries}
@@ -7,6 +7,8 @@ use Rattle.panel.specs.declared.color.TransferFunction.{TransferFunction}
 use Rattle.panel.specs.declared.color.TransferFunction.TheVariants as T
 use Rattle.panel.specs.declared.color.MatrixCoefficients.{MatrixCoefficients}
 use Rattle.panel.specs.declared.color.MatrixCoefficients.TheVariants as M
+use Rattle.panel.specs.declared.FileForm.{FileForm}
+use Rattle.panel.specs.declared.FileForm.TheVariants.{Ordinary, Wide}
 use Rattle.panel.specs.declared.fmt.BitDepth.{BitDepth}
 use Rattle.panel.specs.declared.fmt.BitDepth.TheVariants.{Eight, Ten, Twelve}
 use Rattle.panel.specs.declared.metadata.Orientation.{Orientation}
@@ -59,6 +61,15 @@ orientation_code Rotate270 = 7
 
 unfoldable pub every_orientation : List Orientation
 every_orientation = Normal ∷ FlipH ∷ Rotate180 ∷ FlipV ∷ Transpose ∷ Rotate90 ∷ Transverse ∷ Rotate270 ∷ []
+
+-- ---- form of the file
+
+abbrev pub form_code : FileForm → ℕ
+form_code Ordinary = 0
+form_code Wide = 3
+
+unfoldable pub every_form : List FileForm
+every_form = Ordinary ∷ Wide ∷ []
 
 -- ---- yes or no
 

@@ -1,6 +1,7 @@
 // Values with codes: the code of each, and all values in the order of their codes.
 ghost use Rattle.std.specs.Prelude.{◌≡◌, List, ℕ};
 
+use crate::FileForm;
 use crate::color::{MatrixCoefficients, Primaries, TransferFunction};
 use crate::fmt::BitDepth;
 use crate::metadata::Orientation;
@@ -65,6 +66,23 @@ impl Coded for Orientation {
             Orientation::Transverse,
             Orientation::Rotate270,
         ]
+    }
+}
+
+impl Coded for FileForm {
+    ghost use Rattle.panel.specs.Codes.{form_code, every_form};
+
+    ghost code = { form_code };
+
+    ghost every = { every_form };
+
+    fn code(self) -> u16 {
+        self as u16
+    }
+
+    #[tactic(auto, unfolding(crate::specs::Codes::every_form))]
+    fn every() -> &'static [FileForm] {
+        &[FileForm::Ordinary, FileForm::Wide]
     }
 }
 

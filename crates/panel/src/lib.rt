@@ -22,19 +22,22 @@ use crate::gain_map::EncodedGainMap;
 use crate::metadata::Metadata;
 use std::ops::Range;
 
-// The forms of a file, of which the caller chooses one. The definition `form_of` says what each is.
+// The forms of a file, of which the caller chooses one, each with its code. The definition `form_of` says what each is.
 #[derive(Clone, Copy)]
 pub enum FileForm {
-    Ordinary,
+    Ordinary = 0,
+    Wide = 3,
 }
 
 impl FileForm {
     // Whether ids and counts of items take 32 bits; else they take 16.
+    #[tactic(auto, unfolding(crate::specs::Form::form_of))]
     pub fn is_wide(self) -> bool
         ensures { FormWidths result (form_of self) }
     {
         match self {
             FileForm::Ordinary => false,
+            FileForm::Wide => true,
         }
     }
 }
@@ -43,8 +46,8 @@ impl FileForm {
 #[derive(Clone, Copy)]
 pub struct ItemId(pub u16);
 
-// An item's id as it is counted, before the form says how many bytes it takes. That of an absent item may be more than the ordinary form
-// holds.
+// An item's id in the wide form, and in every form as it is counted, before the form says how many bytes it takes. That of an absent item
+// may be more than the ordinary form holds.
 #[derive(Clone, Copy)]
 pub struct WideItemId(pub u32);
 
@@ -140,7 +143,7 @@ pub enum Refusal {
     TileCount = 2,
     // The lengths do not sum to the bytes lent.
     SampleLengths = 3,
-    // The last item id is more than the form can write; in the ordinary form, above 65,535.
+    // The items are more than the form can write: in the ordinary form the last id is above 65,535, in the wide form the tiles are.
     ItemIds = 4,
     // The file would exceed 4,294,967,295 bytes.
     FileLength = 5,

@@ -1,6 +1,7 @@
--- What a code stands for: a depth, an orientation, yes or no, and a colour by its four codes.
+-- What a code stands for: a depth, an orientation, a form of the file, yes or no, and a colour by its four codes.
 use Rattle.std.specs.Prelude.{Bool, ℕ, Option, Some, option_and_then}
-use Rattle.panel.specs.Codes.{named, primaries_named, transfer_named, matrix_named, depth_code, every_depth, orientation_code, every_orientation, bool_code, every_bool}
+use Rattle.panel.specs.Codes.{named, primaries_named, transfer_named, matrix_named, depth_code, every_depth, orientation_code, every_orientation, form_code, every_form, bool_code, every_bool}
+use Rattle.panel.specs.declared.FileForm.{FileForm}
 use Rattle.panel.specs.declared.color.Cicp.{Cicp}
 use Rattle.panel.specs.declared.fmt.BitDepth.{BitDepth}
 use Rattle.panel.specs.declared.metadata.Orientation.{Orientation}
@@ -14,6 +15,11 @@ depth_named n = named depth_code every_depth n
 
 abbrev pub orientation_named : ℕ → Option Orientation
 orientation_named n = named orientation_code every_orientation n
+
+-- ---- form of the file
+
+abbrev pub form_named : ℕ → Option FileForm
+form_named n = named form_code every_form n
 
 -- ---- yes or no
 

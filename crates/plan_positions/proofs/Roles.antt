@@ -23,7 +23,7 @@ use Rattle.heif.specs.Irot.{irot_payload, irot_count}
 use Rattle.heif.specs.Pixi.{pixi}
 use Rattle.heif.specs.Ispe.{tone_ispe}
 use Rattle.heif.specs.Ipma.{positions}
-use Rattle.heif.proofs.Items.{length-ids_from}
+use Rattle.heif.proofs.Few.{few}
 use Rattle.heif.proofs.Colr.{length-second_colr, length-alternates}
 use Rattle.heif.proofs.Clli.{length-clli}
 use Rattle.heif.proofs.Clap.{length-clap}
@@ -203,32 +203,5 @@ pub few_gain : (n : ℕ) (g : Option Gain) → behind_gain n g ≤ n + 9
 few_gain n g = omega (arith, at_most (is_some g) 1, at_most (is_some (tone_of g)) 1, few_toned g)
 
 -- of each role at most two
-few_ids : (first : ℕ) {n : ℕ} → n ≤ 2 → length (ids_from first n) ≤ 2
-few_ids first {n} h = omega (arith, length-ids_from first n, h)
-
-few_laid : (p : Panel) (r : Ipco.Role) → length (its_of (laid_of p) r) ≤ 2
-unfolding its_of
-few_laid p Ipco.hvcC_colour = omega arith
-few_laid p Ipco.ispe_tile = omega arith
-few_laid p Ipco.ispe_whole = omega arith
-few_laid p Ipco.colr_first = omega arith
-few_laid p Ipco.pixi_colour = omega arith
-few_laid p Ipco.hvcC_alpha = omega arith
-few_laid p Ipco.pixi_alpha = omega arith
-few_laid p Ipco.auxC_alpha = omega arith
-few_laid p Ipco.colr_second = few_ids _ (omega (arith, few_second p.colour.cicp p.colour.icc))
-few_laid p Ipco.irot = few_ids _ (omega (arith, at_most (is_some (irot_payload (irot_steps p.metadata.orientation))) 1))
-few_laid p Ipco.imir = few_ids _ (omega (arith, at_most (is_some (imir_payload (imir_axis p.metadata.orientation))) 1))
-few_laid p Ipco.clli = few_ids _ (omega (arith, at_most (is_some p.metadata.light) 1))
-few_laid p Ipco.clap = few_ids _ (omega (arith, at_most (is_some p.visible) 1))
-few_laid p Ipco.hvcC_gain = few_ids _ (omega (arith, at_most (is_some p.gain) 1))
-few_laid p Ipco.ispe_gain = few_ids _ (omega (arith, at_most (is_some p.gain) 1))
-few_laid p Ipco.pixi_gain = few_ids _ (omega (arith, at_most (is_some p.gain) 1))
-few_laid p Ipco.auxC_gain = few_ids _ (omega (arith, at_most (is_some p.gain) 1))
-few_laid p Ipco.colr_gain = few_ids _ (omega (arith, at_most (is_some p.gain) 1))
-few_laid p Ipco.ispe_tone = few_ids _ (omega (arith, at_most (is_some (tone_of p.gain)) 1))
-few_laid p Ipco.pixi_tone = few_ids _ (omega (arith, at_most (is_some (tone_of p.gain)) 1))
-few_laid p Ipco.colr_tone = few_ids _ (few_toned p.gain)
-
 pub few_placed : (p : Panel) {y : Places} → Placed p y → (r : Ipco.Role) → length (its_of y r) ≤ 2
-few_placed p h r = omega (arith, few_laid p r, ap length (h.role r), ap length ((placed_of p).role r))
+few_placed p h r = omega (arith, few p r, ap length (h.role r))

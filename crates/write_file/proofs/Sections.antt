@@ -23,6 +23,7 @@ use Rattle.heif.specs.Idat.{idat}
 use Rattle.heif.specs.Mdat.{gain_data_size}
 use Rattle.heif.specs.Meta.{meta, meta_size}
 use Rattle.heif.specs.File.{data_at, size}
+use Rattle.heif.proofs.Items.{toned}
 use Rattle.heif.proofs.Refusal.{Accepted, accepted, even-accepted}
 use Rattle.heif.proofs.Iloc.{length-iloc}
 use Rattle.heif.proofs.Iinf.{length-iinf}
@@ -45,11 +46,6 @@ use Rattle.write_file.proofs.Places.{placed-locations}
 two_of : (g : Option Gain) → (payload_lengths g).sample + (payload_lengths g).xmp ≤ gain_data_size g
 two_of None = omega arith
 two_of (Some g) = omega arith
-
--- a tone map comes with a gain map
-toned_of : (g : Option Gain) → is_some (tone_of g) ≡ true → is_some g ≡ true
-toned_of None e = e
-toned_of (Some g) e = refl
 
 module _ (f : Form) (p : Panel) (m : FilePlan) (made : MadeFrom f p m) where
   good : Accepted f p
@@ -97,7 +93,7 @@ module _ (f : Form) (p : Panel) (m : FilePlan) (made : MadeFrom f p m) where
         idat = omega (arith, e.idat, length-idat p.dims);
         sided = record { rows = good.rows; rows_most = good.rows_most; cols = good.cols; cols_most = good.cols_most };
         counted = good.few;
-        toned = toned_of p.gain;
+        toned = toned p.gain;
         tiles = refl;
         alphas = even.counts;
         tiles_end = rw payloads (omega (arith, short, data_at-size f p even, even.sum));
