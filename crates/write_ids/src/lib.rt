@@ -30,6 +30,14 @@ pub fn write_ordinary_id(out: &mut Output, id: ItemId)
     out.w16(id.0);
 }
 
+// Writes an id of the wide form.
+pub fn write_wide_id(out: &mut Output, id: WideItemId)
+    requires { Room out.old 4 }
+    ensures { Wrote out.old 4 (be 4 id.0) out.new }
+{
+    out.w32(id.0);
+}
+
 // Writes an id as the form has it. Here and in the crates that stand on this one, output and form are two parameters, and not one struct:
 // half of the writers have no form to ask, and a struct of both would be one more borrow at each call.
 pub fn write_id(out: &mut Output, form: FileForm, id: WideItemId)
@@ -37,7 +45,7 @@ pub fn write_id(out: &mut Output, form: FileForm, id: WideItemId)
     ensures { Wrote out.old (form_of form).id (be (form_of form).id id.0) out.new }
 {
     if form.is_wide() {
-        out.w32(id.0);
+        write_wide_id(out, id);
     } else {
         write_ordinary_id(out, ordinary_id(id));
     }

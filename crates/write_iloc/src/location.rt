@@ -1,16 +1,16 @@
 // The entries of iloc.
 ghost use Rattle.std.specs.Prelude.{◌≡◌, cond, is_some, option_map, option_to_list, ◌+◌, ◌*◌, ◌≤◌, length};
 ghost use mathlib.Core.List.{flat_map};
-ghost use Rattle.octets.specs.Numbers.{total};
+ghost use Rattle.octets.specs.Numbers.{◌‖◌, be, total};
 ghost use Rattle.octets.specs.Stores.{Room, Wrote};
-ghost use Rattle.panel.specs.Form.{ordinary, form_of};
+ghost use Rattle.panel.specs.Form.{ordinary, wide, form_of};
 ghost use Rattle.heif.specs.Iloc.{entry, entry_size};
 ghost use Rattle.write_iloc.specs.Spans.{location, entries};
 ghost use Rattle.write_iloc.specs.Locations.{method_code, location_of};
 
 use octets::Output;
 use panel::{FileForm, Ids, ItemId, WideItemId};
-use write_ids::{ordinary_id, write_ordinary_id};
+use write_ids::{ordinary_id, write_ordinary_id, write_wide_id};
 
 // The construction method of a payload: what its offset is counted from, the file's first byte or that of idat's body.
 #[derive(Clone, Copy)]
@@ -49,13 +49,11 @@ pub(crate) struct Batch<'a> {
     ghost end_fits: { offset + total lengths.now ≤ 4294967295 },
 }
 
-// The entry of an item in the ordinary form: its id, its construction method, data reference 0, and its one extent. It takes no `Location`,
-// whose id is not yet one of 16 bits.
-fn write_ordinary_location(out: &mut Output, id: ItemId, method: Method, offset: u32, size: u32)
-    requires { Room out.old (entry_size ordinary) }
-    ensures { Wrote out.old (entry_size ordinary) (entry ordinary (location id.0 (method_code method) offset size)) out.new }
+// What stands behind an item's id in its entry: its construction method, data reference 0, and its one extent.
+fn write_extent(out: &mut Output, method: Method, offset: u32, size: u32)
+    requires { Room out.old 14 }
+    ensures { Wrote out.old 14 (be 2 (method_code method) ‖ be 2 0 ‖ be 2 1 ‖ be 4 offset ‖ be 4 size) out.new }
 {
-    write_ordinary_id(out, id);
     out.w16(u16::from(method));
     out.w16(0);
     out.w16(1);
@@ -63,7 +61,25 @@ fn write_ordinary_location(out: &mut Output, id: ItemId, method: Method, offset:
     out.w32(size);
 }
 
-// The entry of an item as the form has it. A form whose entries have other ids gets an arm of its own.
+// The entry of an item in the ordinary form. It takes no `Location`, whose id is not yet one of 16 bits.
+fn write_ordinary_location(out: &mut Output, id: ItemId, method: Method, offset: u32, size: u32)
+    requires { Room out.old (entry_size ordinary) }
+    ensures { Wrote out.old (entry_size ordinary) (entry ordinary (location id.0 (method_code method) offset size)) out.new }
+{
+    write_ordinary_id(out, id);
+    write_extent(out, method, offset, size);
+}
+
+// The entry of an item in the wide form, whose id has 32 bits.
+fn write_wide_location(out: &mut Output, id: WideItemId, method: Method, offset: u32, size: u32)
+    requires { Room out.old (entry_size wide) }
+    ensures { Wrote out.old (entry_size wide) (entry wide (location id.0 (method_code method) offset size)) out.new }
+{
+    write_wide_id(out, id);
+    write_extent(out, method, offset, size);
+}
+
+// The entry of an item as the form has it.
 #[tactic(auto, unfolding(panel::specs::Form::form_of))]
 pub(crate) fn write_location(out: &mut Output, form: FileForm, l: Location)
     requires { Room out.old (entry_size (form_of form)) }
@@ -73,6 +89,7 @@ pub(crate) fn write_location(out: &mut Output, form: FileForm, l: Location)
         FileForm::Ordinary => {
             write_ordinary_location(out, ordinary_id(l.id), l.method, l.offset, l.size);
         }
+        FileForm::Wide => write_wide_location(out, l.id, l.method, l.offset, l.size),
     }
 }
 

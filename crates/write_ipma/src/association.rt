@@ -3,14 +3,14 @@ ghost use mathlib.Core.List.{flat_map};
 ghost use Rattle.std.specs.Prelude.{◌≡◌, cond, ◌*◌, length, is_some, option_map, option_to_list};
 ghost use Rattle.octets.specs.Numbers.{be};
 ghost use Rattle.octets.specs.Stores.{Room, Wrote};
-ghost use Rattle.panel.specs.Form.{ordinary, form_of};
+ghost use Rattle.panel.specs.Form.{ordinary, wide, form_of};
 ghost use Rattle.heif.specs.Ipma.{◌with◌, each, association, association_size};
 ghost use Rattle.plan_runs.specs.Lists.{listed};
 
 use octets::Output;
 use panel::{FileForm, Ids, ItemId, WideItemId};
 use plan_runs::lists::{Associated, count};
-use write_ids::{ordinary_id, write_ordinary_id};
+use write_ids::{ordinary_id, write_ordinary_id, write_wide_id};
 use write_ipma_lists::write_list;
 
 // How many associations a list has, in the 8 bits that an entry has for it.
@@ -31,7 +31,18 @@ fn write_ordinary_association(out: &mut Output, id: ItemId, n: u8, list: &[Assoc
     write_list(out, list);
 }
 
-// An item's entry as the form has it. A form whose entries have other ids gets an arm of its own.
+// An item's entry in the wide form, whose id has 32 bits.
+fn write_wide_association(out: &mut Output, id: WideItemId, n: u8, list: &[Associated])
+    requires room { Room out.old (association_size wide (length (listed list.now))) }
+    requires count { be 1 n ≡ be 1 (length (listed list.now)) }
+    ensures { Wrote out.old (association_size wide (length (listed list.now))) (association wide (id.0 with listed list.now)) out.new }
+{
+    write_wide_id(out, id);
+    out.w8(n);
+    write_list(out, list);
+}
+
+// An item's entry as the form has it.
 #[tactic(auto, unfolding(panel::specs::Form::form_of))]
 pub(crate) fn write_association(
     out: &mut Output,
@@ -46,6 +57,7 @@ pub(crate) fn write_association(
 {
     match form {
         FileForm::Ordinary => write_ordinary_association(out, ordinary_id(id), n, list),
+        FileForm::Wide => write_wide_association(out, id, n, list),
     }
 }
 

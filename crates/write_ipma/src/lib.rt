@@ -27,7 +27,9 @@ use plan_runs::lists::{
 };
 use write_ids::form::write_item_box;
 
-// The entries of a picture: its tiles', which have the same properties, and its grid's.
+// The entries of a picture: its tiles', which have the same properties, and its grid's. It is put where it is called: called as a function
+// of its own it would look up the output anew behind each byte, as a byte could be a part of the output.
+#[inline(always)]
 fn write_picture_associations(
     out: &mut Output,
     form: FileForm,

@@ -1,10 +1,8 @@
--- Six numbers.
+-- The id, and what stands behind it.
 use mathlib.Core.Path.{refl}
 use native.Mathlib.Omega.{arith}
 use Rattle.octets.proofs.Stores.{◌▹◌, told}
 use Rattle.write_iloc.proofs.location.write_ordinary_location.Goals as goal
 
 pub returns : goal.returns
-returns c =
-    let method = rw c.from.ensures at c.w16.ensures in
-    told (c.write_ordinary_id.ensures ▹ method ▹ c.w16-2.ensures ▹ c.w16-3.ensures ▹ c.w32.ensures ▹ c.w32-2.ensures) refl (omega arith)
+returns c = told (c.write_ordinary_id.ensures ▹ c.write_extent.ensures) refl (omega arith)
