@@ -1,8 +1,9 @@
 #!/usr/bin/env bash
 # The header is tried as a caller in C or C++ uses it, with every warning an error: it stands alone, the example finds what it checks, the
 # calls over parts hand on what they are given, and the program in tests/c names every constant of the header, every field and every
-# parameter, writes every file of upstream's list, and files with a visible size that are made by hand, and meets every refusal. Where there
-# is no g++, the trial from C++ is left out and a line says so; with the word `c++` in KAHOPIRU_REQUIRE that is a failure.
+# parameter, writes every file of upstream's list, and files with a visible size and in the wide form that are made by hand, and meets every
+# refusal. Where there is no g++, the trial from C++ is left out and a line says so; with the word `c++` in KAHOPIRU_REQUIRE that is a
+# failure.
 set -euo pipefail
 cd "$(dirname "$0")/.."
 . tests/lib/left_out
@@ -39,14 +40,17 @@ target/c/example
 tests/c/by_name "$header" >target/c/by_name.h
 "${compile[@]}" -o target/c/handed tests/c/handed.c
 target/c/handed
-trial=(tests/c/{main,calls,reader,vectors,refusals,named,visible}.c)
+trial=(tests/c/{main,calls,reader,vectors,refusals,named,visible,forms}.c)
 "${compile[@]}" -o target/c/trial "${trial[@]}" "$lib/libkahopiru.a"
 target/c/trial tests/vectors/upstream.txt
 
-# Nothing of the header is left out: a constant is named somewhere; a field or a parameter in a literal of its struct, `(STRUCT){.NAME = ..}`.
+# Nothing of the header is left out: a constant is named somewhere; a field or a parameter in a literal of its struct,
+# `(STRUCT){.NAME = ..}`.
 tests/c/declared "$header" >target/c/declared
+# The program as it is written, without its comments; and its literals, with what its macros stand for.
 program=$(cat "${trial[@]}" | gcc -fpreprocessed -E -P -xc - | tr '\n' ' ')
-names_field() { grep -oE "\($2\)\{[^}]*\}" <<<"$program" | grep -qE "\.$1 ="; }
+literals=$(for each in "${trial[@]}"; do gcc -E -P -Ibindings/c -Itarget/c "$each"; done | tr '\n' ' ' | grep -oE '\([a-z_]+\)\{[^}]*\}')
+names_field() { grep -qE "^\($2\)\{.*\.$1 =" <<<"$literals"; }
 while read -r kind name of _; do
     case $kind in
         constant) grep -qw "$name" <<<"$program" ;;
@@ -56,12 +60,18 @@ while read -r kind name of _; do
 done <target/c/declared
 
 # Pointers that a call does not read could change their names unseen: each is named as the length behind it, which the call does read. To
-# the length call colour and alpha are alike: it takes what the writing call takes, but for the room.
-awk '$1 == "parameter" && pointer != "" && $2 != pointer "_len" { print "c: behind " pointer " of " $3 " comes " $2 > "/dev/stderr"; exit 1 }
+# the length calls colour and alpha are alike: they take what the writing calls take, but for the room; and those of a form take the form,
+# and then what the others take.
+awk '$1 == "parameter" && pointer != "" && $2 != pointer "_len" {
+        print "c: behind " pointer " of " $3 " comes " $2 > "/dev/stderr"; exit 1 }
     { pointer = /^parameter .* uint(8|32)_t \*$/ ? $2 : "" }' target/c/declared
 parameters() { grep "^parameter .* $1 " target/c/declared | sed "s/ $1 / /"; }
 diff <(parameters kahopiru_file_length) <(parameters kahopiru_write | grep -v '^parameter out') >&2 ||
     fail "the length call takes something else than the writing call"
+for each in file_length/form_length write/form_write; do
+    diff <(echo 'parameter form uint8_t '; parameters "kahopiru_${each%/*}") <(parameters "kahopiru_${each#*/}") >&2 ||
+        fail "kahopiru_${each#*/} takes something else than a form and what kahopiru_${each%/*} takes"
+done
 
 # Each number of the enum of refusals has words, and no other number has.
 "${compile[@]}" -o target/c/words tests/c/words.c

@@ -70,6 +70,7 @@ int main(void) {
     expect(memcmp(out + 550, "mdat", 4) == 0, "mdat begins at 546");
     expect(out[554] == 0xAA && out[555] == 0xBB, "the colour sample is at 554, the alpha sample at 555");
     expect(untouched(out + 556, sizeof out - 556, mark), "the room behind the file is as it was");
+    const uint8_t color = out[554], alpha = out[555];
 
     /* Items 1 and 2 are the colour tile and the colour grid, items 3 and 4 the alpha tile and the alpha grid. */
     kahopiru_tile_place tile = kahopiru_parts_tile(3, &parts);
@@ -82,6 +83,12 @@ int main(void) {
     srgb.color = (kahopiru_color){.has_cicp = 1, .cicp = KAHOPIRU_CICP_SRGB};
     expect(kahopiru_parts_length(srgb, &parts).length == 556, "a colour that is stated takes no more bytes");
 
+    /* The same panel in the wide form, in which ids take 32 bits: 19 ids and 2 counts have two bytes more each. */
+    kahopiru_answer wide = kahopiru_parts_form_length(KAHOPIRU_WIDE, panel, &parts);
+    expect(wide.refusal == KAHOPIRU_ACCEPTED && wide.length == 598, "the wide file has 598 bytes");
+    expect(kahopiru_parts_form_write(KAHOPIRU_WIDE, panel, &parts, out, sizeof out).length == 598, "they are written");
+    expect(out[596] == 0xAA && out[597] == 0xBB, "the samples are at 596 and 597 there");
+
     kahopiru_panel none = panel;
     none.cols = 0;
     kahopiru_answer refused = kahopiru_parts_length(none, &parts);
@@ -90,7 +97,7 @@ int main(void) {
     if (failures)
         return 1;
     printf("a file of %llu bytes: ftyp at 0, meta at 28, mdat at 546\n", (unsigned long long)answer.length);
-    printf("colour sample %02X at 554, alpha sample %02X at 555\n", out[554], out[555]);
+    printf("colour sample %02X at 554, alpha sample %02X at 555\n", color, alpha);
     printf("0 columns: refused %u, %s\n", (unsigned)refused.refusal, kahopiru_refusal_text(refused.refusal));
     return 0;
 }

@@ -1,12 +1,17 @@
 /*
  * Kahopiru: a HEIF file writer whose every byte is proved.
  *
+ * Since 0.7.0 a file can be asked for in a form. There are two: the ordinary one, in which every file was written
+ * before, and the wide one for more than 32,766 tiles. KAHOPIRU_WIDE, below, says more. Callers of 0.6.0 have nothing to
+ * change: every struct and every call that there was is as it was, and what was compiled with that header runs with this
+ * archive.
+ *
  * Since 0.6.0 kahopiru_panel ends in has_visible, visible_w and visible_h, a visible size of the tiles; "What goes in"
  * says what it is for. With has_visible = 0 there is none, and the file is what it was: an initialiser that does not
  * name these fields, or ends before them, needs no change, and code that sets field after field must set has_visible,
- * too. The struct is longer. What was compiled with an older header still links, but hands its arguments over at other
- * places than the archive takes them from: compile it anew before it runs, and add the three fields wherever another
- * language declares the struct.
+ * too. The struct is longer. What was compiled with a header before that still links, but hands its arguments over at
+ * other places than the archive takes them from: compile it anew before it runs, and add the three fields wherever
+ * another language declares the struct.
  *
  * Since 0.5.0 a panel whose tiles do not cover the picture, or one of whose sizes is 0, is refused with 8; before, any
  * sizes were written.
@@ -25,11 +30,14 @@
  *
  * kahopiru_parts_length answers how long the file will be, kahopiru_parts_write writes it into room that the caller
  * lends. Both answer the same of the same panel; only kahopiru_parts_write can find the room too short.
- * kahopiru_parts_tile answers where among the lent samples the tile of an item id lies. kahopiru_sheet takes a panel as
- * one run of bytes, a sheet. kahopiru_refusal_text says in words why a call refuses.
+ * kahopiru_parts_form_length and kahopiru_parts_form_write are these two for a form of the file that the caller names,
+ * KAHOPIRU_ORDINARY or KAHOPIRU_WIDE; what takes no form writes the ordinary one. kahopiru_parts_tile answers where
+ * among the lent samples the tile of an item id lies. kahopiru_sheet takes a panel as one run of bytes, a sheet.
+ * kahopiru_refusal_text says in words why a call refuses.
  *
- * The calls over parts are inline. What they call, and what the archive has, are kahopiru_file_length, kahopiru_write
- * and kahopiru_tile, which take each part as two arguments, as other languages call them.
+ * The calls over parts are inline. What they call, and what the archive has, are kahopiru_form_length,
+ * kahopiru_form_write and kahopiru_tile, and for the ordinary form alone kahopiru_file_length and kahopiru_write; these
+ * take each part as two arguments, as other languages call them.
  *
  * The archive
  * -----------
@@ -107,13 +115,13 @@
  *       the visible size in the place of tile_w and tile_h where there is one
  *   2   color_lengths or alpha_lengths has not exactly rows x cols entries
  *   3   the colour lengths or the alpha lengths do not sum to the sample bytes lent
- *   4   the last item id would be above 65,535: 2 x rows x cols + 2, and 1 more for Exif, 2 for a gain map, 1 for a
- *       tone map
+ *   4   in the ordinary form the last item id would be above 65,535: 2 x rows x cols + 2, and 1 more for Exif, 2 for
+ *       a gain map, 1 for a tone map; in the wide form rows x cols is above 65,535, as 256 x 256 alone is
  *   5   the file would be longer than 4,294,967,295 bytes
  *   6   the output is shorter than the file (the writing calls only)
  *   7   the id names no tile (the tile lookup only)
- *  13   a code names nothing: a depth, an orientation, a colour code, or a field of 0 or 1 that is neither. Codes
- *       beside an absent part are not looked at
+ *  13   a code names nothing: a form, a depth, an orientation, a colour code, or a field of 0 or 1 that is neither.
+ *       Codes beside an absent part are not looked at
  *
  * A sheet is refused with 15 if it has more than 12,288 bytes; else with the first of these that its reading meets;
  * else with 1, 8 or 6, in this order:
@@ -134,7 +142,7 @@
 /* The version of header and archive, which is the Rust crate's. While the first number is 0, the second rises where a
    file of any panel, a struct, a call, a refusal or what a sheet says changes, and the third where nothing of that
    does. A change of a file's bytes is told first in docs/CHANGES.md. */
-#define KAHOPIRU_VERSION "0.6.0"
+#define KAHOPIRU_VERSION "0.7.0"
 
 #ifdef __cplusplus
 extern "C" {
@@ -287,6 +295,65 @@ kahopiru_answer kahopiru_write(
     const uint8_t *alternate_icc, size_t alternate_icc_len,
     uint8_t *out, size_t out_len);
 
+/* The forms of a file, for the calls that take one. A form decides how wide some numbers of a file are; what the file
+   says is the same in each.
+
+   ORDINARY is the form in which everything is written that takes no form. An item's id takes 16 bits, so that a picture
+   has at most 32,766 tiles, as 254 x 129; with a gain map no grid has more than 32,763, as 201 x 163.
+
+   WIDE is for more tiles than that, such as those of a web press camera: for every grid but 256 x 256. An item's id
+   takes 32 bits in pitm, iloc, infe, iref and ipma, and so do the counts of items in iloc and iinf. ISO/IEC 14496-12 has
+   versions of these boxes for that, and 23008-12 one of ipma. All else is the same bytes, but for the sizes and offsets
+   that follow. Readers that know ids of 16 bits alone do not read such a file; docs/DIFFERENCES.md says which do. Where
+   the ordinary form accepts a panel, more readers show its file in that.
+
+   No other number names a form. */
+enum { KAHOPIRU_ORDINARY = 0, KAHOPIRU_WIDE = 3 };
+
+/* The length of the panel's file in this form, or why the panel is refused there. A number that names no form is
+   refused with 13 before all else. In the ordinary form the answer is that of kahopiru_file_length. In the wide form 4
+   holds if rows x cols is above 65,535, and 5 goes by the length of the wide file.
+
+   That is the length of the ordinary file, and two bytes more for each id in those five boxes and for each of the two
+   counts. Together these are 16 x rows x cols + 26 bytes, and 8 more for Exif, 18 for a gain map, 12 for a tone map. */
+kahopiru_answer kahopiru_form_length(
+    uint8_t form,
+    kahopiru_panel panel,
+    const uint8_t *color_hvcc, size_t color_hvcc_len,
+    const uint8_t *alpha_hvcc, size_t alpha_hvcc_len,
+    const uint32_t *color_lengths, size_t color_lengths_len,
+    const uint32_t *alpha_lengths, size_t alpha_lengths_len,
+    const uint8_t *color_samples, size_t color_samples_len,
+    const uint8_t *alpha_samples, size_t alpha_samples_len,
+    const uint8_t *icc, size_t icc_len,
+    const uint8_t *exif, size_t exif_len,
+    const uint8_t *gain_hvcc, size_t gain_hvcc_len,
+    const uint8_t *gain_sample, size_t gain_sample_len,
+    const uint8_t *gain_xmp, size_t gain_xmp_len,
+    const uint8_t *gain_tmap, size_t gain_tmap_len,
+    const uint8_t *alternate_icc, size_t alternate_icc_len);
+
+/* Writes the panel's file in this form to the front of out, as kahopiru_write does in the ordinary form, and answers
+   its length. What kahopiru_form_length refuses it refuses with the same number, and with 6 if out is shorter than the
+   file. */
+kahopiru_answer kahopiru_form_write(
+    uint8_t form,
+    kahopiru_panel panel,
+    const uint8_t *color_hvcc, size_t color_hvcc_len,
+    const uint8_t *alpha_hvcc, size_t alpha_hvcc_len,
+    const uint32_t *color_lengths, size_t color_lengths_len,
+    const uint32_t *alpha_lengths, size_t alpha_lengths_len,
+    const uint8_t *color_samples, size_t color_samples_len,
+    const uint8_t *alpha_samples, size_t alpha_samples_len,
+    const uint8_t *icc, size_t icc_len,
+    const uint8_t *exif, size_t exif_len,
+    const uint8_t *gain_hvcc, size_t gain_hvcc_len,
+    const uint8_t *gain_sample, size_t gain_sample_len,
+    const uint8_t *gain_xmp, size_t gain_xmp_len,
+    const uint8_t *gain_tmap, size_t gain_tmap_len,
+    const uint8_t *alternate_icc, size_t alternate_icc_len,
+    uint8_t *out, size_t out_len);
+
 /* Where a tile's payload lies. */
 typedef struct {
     uint32_t refusal; /* 0: accepted; else the number of the refusal, and all else is 0 */
@@ -297,7 +364,10 @@ typedef struct {
 
 /* Where the payload of the tile with this item id lies. With n tiles in each picture, the colour tiles have the ids 1
    to n and the alpha tiles n + 2 to 2n + 1. Refused, in this order, with 2 if the two lists differ in count or are
-   empty, 3 if either list does not sum to its bytes, 4 if 2n + 2 is above 65,535, 7 if the id names no tile. */
+   empty, 3 if either list does not sum to its bytes, 4 if 2n + 2 is above 65,535, 7 if the id names no tile.
+
+   The lookup keeps to ids of 16 bits. In a wide file the tiles have the same ids; where it has more than 32,766 tiles
+   in a picture, the lookup answers 4. */
 kahopiru_tile_place kahopiru_tile(
     uint16_t id,
     const uint32_t *color_lengths, size_t color_lengths_len,
@@ -339,9 +409,11 @@ typedef struct {
     kahopiru_bytes alternate_icc;
 } kahopiru_parts;
 
-/* kahopiru_file_length over parts. */
-static inline kahopiru_answer kahopiru_parts_length(kahopiru_panel panel, const kahopiru_parts *parts) {
-    return kahopiru_file_length(
+/* kahopiru_form_length over parts. */
+static inline kahopiru_answer kahopiru_parts_form_length(uint8_t form, kahopiru_panel panel,
+                                                         const kahopiru_parts *parts) {
+    return kahopiru_form_length(
+        form,
         panel,
         parts->color_hvcc.data, parts->color_hvcc.len,
         parts->alpha_hvcc.data, parts->alpha_hvcc.len,
@@ -358,10 +430,11 @@ static inline kahopiru_answer kahopiru_parts_length(kahopiru_panel panel, const 
         parts->alternate_icc.data, parts->alternate_icc.len);
 }
 
-/* kahopiru_write over parts. */
-static inline kahopiru_answer kahopiru_parts_write(kahopiru_panel panel, const kahopiru_parts *parts,
-                                                   uint8_t *out, size_t out_len) {
-    return kahopiru_write(
+/* kahopiru_form_write over parts. */
+static inline kahopiru_answer kahopiru_parts_form_write(uint8_t form, kahopiru_panel panel, const kahopiru_parts *parts,
+                                                        uint8_t *out, size_t out_len) {
+    return kahopiru_form_write(
+        form,
         panel,
         parts->color_hvcc.data, parts->color_hvcc.len,
         parts->alpha_hvcc.data, parts->alpha_hvcc.len,
@@ -377,6 +450,17 @@ static inline kahopiru_answer kahopiru_parts_write(kahopiru_panel panel, const k
         parts->gain_tmap.data, parts->gain_tmap.len,
         parts->alternate_icc.data, parts->alternate_icc.len,
         out, out_len);
+}
+
+/* kahopiru_file_length over parts: kahopiru_form_length in the ordinary form. */
+static inline kahopiru_answer kahopiru_parts_length(kahopiru_panel panel, const kahopiru_parts *parts) {
+    return kahopiru_parts_form_length(KAHOPIRU_ORDINARY, panel, parts);
+}
+
+/* kahopiru_write over parts: kahopiru_form_write in the ordinary form. */
+static inline kahopiru_answer kahopiru_parts_write(kahopiru_panel panel, const kahopiru_parts *parts,
+                                                   uint8_t *out, size_t out_len) {
+    return kahopiru_parts_form_write(KAHOPIRU_ORDINARY, panel, parts, out, out_len);
 }
 
 /* kahopiru_tile over parts, of which it takes the lengths and the samples of colour and alpha. */
@@ -401,7 +485,8 @@ static inline const char *kahopiru_refusal_text(uint32_t refusal) {
     case KAHOPIRU_SAMPLE_LENGTHS:
         return "the lengths do not add up to the sample bytes that were handed over";
     case KAHOPIRU_ITEM_IDS:
-        return "there are so many tiles that the last item id would be above 65,535";
+        return "there are too many tiles: the last item id or, in the wide form, the count in a picture "
+               "would be above 65,535";
     case KAHOPIRU_FILE_LENGTH:
         return "the file would be longer than 4,294,967,295 bytes";
     case KAHOPIRU_OUTPUT_LENGTH:
@@ -417,7 +502,7 @@ static inline const char *kahopiru_refusal_text(uint32_t refusal) {
         return "the sheet's map asks for something that there is not, "
                "or for a part without the part that it belongs to";
     case KAHOPIRU_CODE:
-        return "a depth, an orientation, a colour code or a yes or no is none that exists";
+        return "a form of the file, a depth, an orientation, a colour code, or a yes or no is none that exists";
     case KAHOPIRU_SHEET_BYTES_LEFT:
         return "bytes are left over behind the sheet's last field";
     case KAHOPIRU_SHEET_LENGTH:

@@ -72,17 +72,29 @@ static void expect(int holds, const char *call, const char *what) {
         expect(answer.length == call##_answers.length, #call, "answer");                                    \
     } while (0)
 
-int main(void) {
-    kahopiru_file_length_answers = (kahopiru_answer){.refusal = 17, .length = 18};
-    kahopiru_answer answer = kahopiru_parts_length(panel, &parts);
-    HANDED_PANEL(kahopiru_file_length);
+/* The last answer of the length call in a form, and what it was given. */
+static void handed_length(kahopiru_answer answer, uint8_t form) {
+    HANDED_PANEL(kahopiru_form_length);
+    expect(kahopiru_form_length_took.form == form, "kahopiru_form_length", "form");
+}
 
-    uint8_t out;
-    kahopiru_write_answers = (kahopiru_answer){.refusal = 19, .length = 20};
-    answer = kahopiru_parts_write(panel, &parts, &out, 21);
-    HANDED_PANEL(kahopiru_write);
-    expect(kahopiru_write_took.out == &out, "kahopiru_write", "out");
-    expect(kahopiru_write_took.out_len == 21, "kahopiru_write", "out_len");
+/* The same of the writing call, which was to be given this room. */
+static void handed_write(kahopiru_answer answer, uint8_t form, const uint8_t *out, size_t out_len) {
+    HANDED_PANEL(kahopiru_form_write);
+    expect(kahopiru_form_write_took.form == form, "kahopiru_form_write", "form");
+    expect(kahopiru_form_write_took.out == out, "kahopiru_form_write", "out");
+    expect(kahopiru_form_write_took.out_len == out_len, "kahopiru_form_write", "out_len");
+}
+
+int main(void) {
+    kahopiru_form_length_answers = (kahopiru_answer){.refusal = 17, .length = 18};
+    handed_length(kahopiru_parts_length(panel, &parts), KAHOPIRU_ORDINARY);
+    handed_length(kahopiru_parts_form_length(28, panel, &parts), 28);
+
+    uint8_t out[2];
+    kahopiru_form_write_answers = (kahopiru_answer){.refusal = 19, .length = 20};
+    handed_write(kahopiru_parts_write(panel, &parts, out, 21), KAHOPIRU_ORDINARY, out, 21);
+    handed_write(kahopiru_parts_form_write(29, panel, &parts, out + 1, 30), 29, out + 1, 30);
 
     kahopiru_tile_answers = (kahopiru_tile_place){.refusal = 22, .alpha = 23, .start = 24, .length = 25};
     const kahopiru_tile_place tile = kahopiru_parts_tile(26, &parts);

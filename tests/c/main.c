@@ -1,7 +1,7 @@
 /*
- * main LIST: writes every panel of the list of upstream's files, and panels with a visible size, and meets every
- * refusal, as a caller in C does, with the archive's own calls and with those over parts. Prints what is not so and
- * ends with 1, or prints one line and ends with 0.
+ * main LIST: writes every panel of the list of upstream's files, panels with a visible size, and panels in the wide
+ * form, and meets every refusal in either form, as a caller in C does, with the archive's own calls and with those over
+ * parts. Prints what is not so and ends with 1, or prints one line and ends with 0.
  */
 #include "trial.h"
 
@@ -52,8 +52,11 @@ int main(int count, char **words) {
     }
     int panels = 0, refused = 0;
     for (by = roads; by < roads + ROADS; by++) {
-        panels += try_vectors(words[1]);
         refused += try_refusals();
+        try_forms();
+        if (by->form != KAHOPIRU_ORDINARY)
+            continue;
+        panels += try_vectors(words[1]);
         try_named();
         try_visible();
     }

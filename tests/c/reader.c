@@ -13,20 +13,19 @@ static const uint8_t depths[] = {KAHOPIRU_EIGHT, KAHOPIRU_TEN, KAHOPIRU_TWELVE};
 static const uint8_t orientations[] = {KAHOPIRU_NORMAL,    KAHOPIRU_FLIP_H,    KAHOPIRU_ROTATE_180, KAHOPIRU_FLIP_V,
                                        KAHOPIRU_TRANSPOSE, KAHOPIRU_ROTATE_90, KAHOPIRU_TRANSVERSE, KAHOPIRU_ROTATE_270};
 
-/* The next bytes of a sheet, which go away from its front. */
-static bytes take(bytes *sheet, size_t count) {
-    if (count > sheet->count) {
-        fprintf(stderr, "c: a sheet of the list ends before its fields do\n");
+bytes take(bytes *from, size_t count) {
+    if (count > from->count) {
+        fprintf(stderr, "c: a sheet of the list, or a box of a file, ends before its fields do\n");
         exit(1);
     }
-    bytes taken = {sheet->at, count};
-    sheet->at += count;
-    sheet->count -= count;
+    bytes taken = {from->at, count};
+    from->at += count;
+    from->count -= count;
     return taken;
 }
 
-static uint32_t number(bytes *sheet, size_t count) {
-    bytes digits = take(sheet, count);
+uint32_t number(bytes *from, size_t count) {
+    bytes digits = take(from, count);
     uint32_t n = 0;
     for (size_t i = 0; i < count; i++)
         n = n << 8 | digits.at[i];
@@ -73,7 +72,7 @@ static const uint8_t junk_bytes[] = {'j', 'u', 'n', 'k'};
 static const kahopiru_cicp junk_cicp = {.primaries = 3, .transfer = 3, .matrix = 18, .full_range = 2};
 
 given read_sheet(bytes sheet, uint32_t *lengths, bool junk) {
-    const bytes no_bytes = junk ? (bytes){junk_bytes, sizeof junk_bytes} : (bytes){NULL, 0};
+    const bytes no_bytes = junk ? (bytes){junk_bytes, sizeof junk_bytes} : nothing;
     const kahopiru_cicp no_cicp = junk ? junk_cicp : (kahopiru_cicp){.primaries = 0};
     const uint8_t no_code = junk ? 9 : 0;
     const uint32_t map = number(&sheet, 2);

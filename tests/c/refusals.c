@@ -47,8 +47,6 @@ static const uint32_t possible[CALLS] = {
 static uint32_t met[CALLS];
 static int refused_calls = 0;
 
-static const bytes nothing = {NULL, 0};
-
 /* Looks at a refusal; why is the input's fault. */
 static void look(enum call call, uint32_t found, uint32_t constant, const char *why) {
     expect(found == constant, why, "it is refused by its name");
@@ -116,14 +114,14 @@ static const struct {
     {64, UINT32_MAX, 192, UINT32_MAX, KAHOPIRU_ACCEPTED, "tiles that reach beyond 32 bits, down"},
 };
 
-/* P with two rows of three empty tiles. */
-static given six_tiles(const given *p) {
-    static const uint32_t zeros[6];
+/* P with a grid of empty tiles. */
+static given grid(const given *p, uint32_t cols, uint32_t rows) {
+    static const uint32_t zeros[256 * 256];
     given g = *p;
+    g.panel.cols = cols;
+    g.panel.rows = rows;
+    g.color_lengths = g.alpha_lengths = (numbers){zeros, (size_t)cols * rows};
     g.color_samples = g.alpha_samples = nothing;
-    g.color_lengths = g.alpha_lengths = (numbers){zeros, 6};
-    g.panel.cols = 3;
-    g.panel.rows = 2;
     return g;
 }
 
@@ -137,7 +135,7 @@ static void judged(const given *g, uint32_t refusal, const char *why) {
 
 static void sizes(const given *p) {
     static const uint32_t two[] = {1, 0};
-    given g = six_tiles(p);
+    given g = grid(p, 3, 2);
     for (size_t i = 0; i < sizeof sized / sizeof *sized; i++) {
         g.panel.tile_w = sized[i].tile_w;
         g.panel.tile_h = sized[i].tile_h;
@@ -190,7 +188,7 @@ static const struct {
 };
 
 static void visible_sizes(const given *p) {
-    given g = six_tiles(p);
+    given g = grid(p, 3, 2);
     g.panel.has_visible = 1;
     for (size_t i = 0; i < sizeof seen / sizeof *seen; i++) {
         g.panel.tile_w = seen[i].tile_w;
@@ -243,27 +241,36 @@ static void lists(const given *p) {
     refused_tile(&g, 1, KAHOPIRU_SAMPLE_LENGTHS, "an alpha byte too many");
 }
 
-/* 217 x 151 tiles need the id 65,536; 254 x 129 leave one id above the alpha grid's, and a gain map wants two. */
+/* In the ordinary form 217 x 151 tiles need the id 65,536; 254 x 129 leave one id above the alpha grid's, and a gain map
+   wants two. In the wide form 4 goes by the tiles alone. The lookup has no form, and keeps to ordinary ids. */
 static void ids(const given *p) {
-    enum { TOO_MANY = 217 * 151, JUST = 254 * 129 };
-    static const uint32_t zeros[TOO_MANY];
-    given g = *p;
-    g.color_samples = g.alpha_samples = nothing;
-    g.panel.cols = 217;
-    g.panel.rows = 151;
-    g.color_lengths = g.alpha_lengths = (numbers){zeros, TOO_MANY};
-    refused(&g, KAHOPIRU_ITEM_IDS, "217 x 151 tiles");
+    enum { JUST = 254 * 129 };
+    const uint32_t beyond = by->form == KAHOPIRU_WIDE ? KAHOPIRU_ACCEPTED : KAHOPIRU_ITEM_IDS;
+    given g = grid(p, 217, 151);
+    judged(&g, beyond, "217 x 151 tiles");
     refused_tile(&g, 1, KAHOPIRU_ITEM_IDS, "217 x 151 tiles");
-    g.panel.cols = 254;
-    g.panel.rows = 129;
-    g.color_lengths = g.alpha_lengths = (numbers){zeros, JUST};
+    g = grid(p, 254, 129);
     g.panel.has_exif = 1;
-    expect(by->length(&g).refusal == KAHOPIRU_ACCEPTED, "254 x 129 tiles and Exif", "it is accepted");
-    g.panel.has_exif = 0;
+    judged(&g, KAHOPIRU_ACCEPTED, "254 x 129 tiles and Exif");
     g.panel.has_gain = 1;
-    refused(&g, KAHOPIRU_ITEM_IDS, "254 x 129 tiles and a gain map");
+    judged(&g, beyond, "254 x 129 tiles, Exif and a gain map");
+    g.panel.has_exif = 0;
+    judged(&g, beyond, "254 x 129 tiles and a gain map");
     refused_tile(&g, JUST + 1, KAHOPIRU_NO_TILE, "the colour grid's id");
     refused_tile(&g, 0, KAHOPIRU_NO_TILE, "the id 0");
+    g = grid(p, 255, 256);
+    judged(&g, beyond, "255 x 256 tiles");
+    refused_tile(&g, 1, KAHOPIRU_ITEM_IDS, "255 x 256 tiles");
+    g = grid(p, 256, 255);
+    judged(&g, beyond, "256 x 255 tiles");
+
+    /* Panels at which two checks hold. */
+    g = grid(p, 256, 256);
+    refused(&g, KAHOPIRU_ITEM_IDS, "256 x 256 tiles");
+    g.alpha_samples = (bytes){p_sheet, 1};
+    refused(&g, KAHOPIRU_SAMPLE_LENGTHS, "256 x 256 tiles and an alpha byte too many: 3 before 4");
+    g.color_lengths.count--;
+    refused(&g, KAHOPIRU_TILE_COUNT, "256 x 256 tiles and a colour length too few: 2 before 4");
 }
 
 /* Eight parts of half a GiB, all the same memory, make a file of more than 4 GiB. Of these the calls read at most the records' second bytes. */

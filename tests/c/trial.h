@@ -15,6 +15,7 @@ typedef struct {
     const uint8_t *at;
     size_t count;
 } bytes;
+static const bytes nothing = {NULL, 0};
 
 typedef struct {
     const uint32_t *at;
@@ -29,16 +30,20 @@ typedef struct {
     bytes icc, exif, gain_hvcc, gain_sample, xmp, tone_map, alternate_icc;
 } given;
 
-/* calls.c: the calls of a panel, each by the names of its parameters: as the archive has them, and over parts. */
+/* calls.c: the calls of a panel, each by the names of its parameters: as the archive has them, and over parts; those
+   that take no form, and those that take one, in a form. */
 typedef struct {
     const char *name;
+    uint8_t form; /* that of the next two */
     kahopiru_answer (*length)(const given *g);
     kahopiru_answer (*write)(const given *g, uint8_t *out, size_t out_len);
     kahopiru_tile_place (*tile)(const given *g, uint16_t id);
+    kahopiru_answer (*form_length)(uint8_t form, const given *g);
+    kahopiru_answer (*form_write)(uint8_t form, const given *g, uint8_t *out, size_t out_len);
 } calls;
-enum { ROADS = 2 };
+enum { ROADS = 5 };
 extern const calls roads[ROADS];
-/* main.c: those of the two that are tried now. */
+/* main.c: those of them that are tried now. */
 extern const calls *by;
 /* calls.c: the sheet call, by the names of its parameters. */
 kahopiru_answer call_sheet(bytes sheet, uint8_t *out, size_t out_len);
@@ -48,9 +53,14 @@ kahopiru_answer call_sheet(bytes sheet, uint8_t *out, size_t out_len);
 given read_sheet(bytes sheet, uint32_t *lengths, bool junk);
 /* Bytes from hexadecimal digits, into room for half as many. */
 bytes from_hex(const char *digits, uint8_t *room);
+/* The next bytes of what is read, which go away from its front; and the number that they say. */
+bytes take(bytes *from, size_t count);
+uint32_t number(bytes *from, size_t count);
 
 /* vectors.c: every panel of the list in this file is written as the list has it. Answers how many there are. */
 int try_vectors(const char *path);
+/* vectors.c: the calls answer a panel's length and write its file, into rooms of several lengths. */
+void try_panel(const char *name, const given *g, bytes file);
 /* refusals.c: every refusal of every call is met. Answers how many refused calls there were. */
 int try_refusals(void);
 /* named.c: the code points that have a name are written as they should be. */
@@ -59,6 +69,8 @@ void try_named(void);
 given panel_p(void);
 /* visible.c: a visible size is written as it should be. */
 void try_visible(void);
+/* forms.c: a number that names no form is refused, and files in the wide form are written as they should be. */
+void try_forms(void);
 
 /* main.c: says what is not so, with the name of the panel at which it is not. */
 void expect(bool holds, const char *name, const char *what);

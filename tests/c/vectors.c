@@ -10,10 +10,9 @@ static kahopiru_answer accepted(bytes file) {
 }
 
 static const kahopiru_answer short_room = {.refusal = KAHOPIRU_OUTPUT_LENGTH, .length = 0};
-static const bytes nothing = {NULL, 0};
 
 /* The length call answers the file's length, and the writing call gives the file where there is room. */
-static void try_panel(const char *name, const given *g, bytes file) {
+void try_panel(const char *name, const given *g, bytes file) {
     uint8_t *out = lend_room();
     expect(same_answer(by->length(g), accepted(file)), name, "the length call answers the file's length");
     expect(same_answer(by->write(g, out, file.count - 1), short_room), name, "a room one byte short is refused");

@@ -10,13 +10,14 @@
 //! | [`write`](fn@write) | writes the file into room that the caller lends |
 //! | [`to_vec`] | makes a vector of it |
 //! | [`write_to`] | writes it to a file, a socket or any other [`std::io::Write`] |
+//! | [`form_length`], [`write_in_form`], [`to_vec_in_form`], [`write_to_in_form`] | the same, in a [form](FileForm) |
 //! | [`write_sheet`], [`sheet_to_vec`] | write the file of a sheet, which is a panel as one run of bytes |
 //! | [`tile`] | gives the payload of a tile by its item id |
 //!
 //! The code behind these calls is an archive, `libkahopiru.a`, in which every function is proved: the bytes written are
 //! those of a definition of the file, for every panel, and nothing else is touched. This crate only hands the parts
-//! over. It has no dependencies, and allocates nothing but the vectors of [`to_vec`], [`write_to`], [`sheet_to_vec`]
-//! and [`SampleList`].
+//! over. It has no dependencies, and allocates nothing but the vectors of [`to_vec`], [`write_to`], these two in a
+//! form, [`sheet_to_vec`] and [`SampleList`].
 //!
 //! # Example
 //!
@@ -74,6 +75,8 @@
 //! - Mirrored orientations show mirrored the other way in today's readers. See [`Orientation`].
 //! - An alternate colour that is empty, or without a tone map, is the same as none. See
 //!   [`EncodedGainMap::alternate_color`].
+//! - A grid of more than 32,766 tiles, or of just so many (254 × 129) with a gain map, wants the wide form of the file,
+//!   which not every reader reads. See [`FileForm`].
 //! - A sheet has at most 12,288 bytes, and cannot say a visible size. See [`write_sheet`].
 //!
 //! Numbers that come from elsewhere become values by `TryFrom`: code points ([`Primaries`], [`TransferFunction`],
@@ -92,6 +95,7 @@
 #![deny(unsafe_op_in_unsafe_fn)]
 
 mod color;
+mod form;
 mod hand_over;
 mod metadata;
 mod panel;
@@ -103,6 +107,7 @@ mod unknown_code;
 mod write_error;
 
 pub use color::{Cicp, ColorMetadata, MatrixCoefficients, Primaries, TransferFunction};
+pub use form::FileForm;
 pub use metadata::{BitDepth, ContentLightLevel, Metadata, Orientation};
 pub use panel::{EncodedGainMap, GridDims, Panel, VisibleSize};
 pub use refusal::Refusal;
@@ -175,11 +180,7 @@ pub fn write(panel: &Panel<'_>, out: &mut [u8]) -> Result<usize, Refusal> {
 ///
 /// As [`file_length`].
 pub fn to_vec(panel: &Panel<'_>) -> Result<Vec<u8>, Refusal> {
-    let length = file_length(panel)?;
-    let mut file = vec![0; length as usize];
-    let written = write(panel, &mut file)?;
-    debug_assert_eq!(written as u64, length);
-    Ok(file)
+    to_vec_in_form(FileForm::Ordinary, panel)
 }
 
 /// Writes the panel's whole file to `out`, flushes it, and answers the file's length.
@@ -214,8 +215,97 @@ pub fn to_vec(panel: &Panel<'_>) -> Result<Vec<u8>, Refusal> {
 /// # Ok(())
 /// # }
 /// ```
-pub fn write_to(panel: &Panel<'_>, mut out: impl io::Write) -> Result<u64, WriteError> {
-    let file = to_vec(panel)?;
+pub fn write_to(panel: &Panel<'_>, out: impl io::Write) -> Result<u64, WriteError> {
+    write_to_in_form(FileForm::Ordinary, panel, out)
+}
+
+/// The length of the panel's file in a form, or why the panel is refused there.
+///
+/// In the [ordinary form](FileForm::Ordinary) the answer is that of [`file_length`].
+///
+/// # Errors
+///
+/// As [`file_length`], of which two go by the form: [`Refusal::ItemIds`] holds in the [wide form](FileForm::Wide) if
+/// there are more than 65,535 tiles in a picture, as in a grid of 256 × 256 alone, and [`Refusal::FileLength`] if the
+/// file in this form would be too long.
+///
+/// # Panics
+///
+/// As [`file_length`].
+///
+/// ```
+/// use kahopiru::{file_length, form_length, to_vec_in_form, FileForm, GridDims, Panel, Refusal, Samples};
+///
+/// // A grid of 255 × 256 tiles, of which each is one byte here.
+/// let (lengths, bytes) = (vec![1; 255 * 256], vec![0; 255 * 256]);
+/// let tiles = Samples { lengths: &lengths, bytes: &bytes };
+/// let panel = Panel {
+///     dims: GridDims { cols: 255, rows: 256, tile_w: 64, tile_h: 64, full_w: 16_320, full_h: 16_384 },
+///     color_samples: tiles,
+///     alpha_samples: tiles,
+///     ..Panel::default()
+/// };
+/// assert_eq!(file_length(&panel), Err(Refusal::ItemIds));
+///
+/// let file = to_vec_in_form(FileForm::Wide, &panel)?;
+/// assert_eq!(file.len() as u64, form_length(FileForm::Wide, &panel)?);
+/// assert_eq!(&file[73 + 4..73 + 9], b"pitm\x01"); // ids of 32 bits are its version 1
+/// # Ok::<(), Refusal>(())
+/// ```
+pub fn form_length(form: FileForm, panel: &Panel<'_>) -> Result<u64, Refusal> {
+    let (numbers, lent) = hand_over::of(panel);
+    let answer = sys::form_length(form.code(), numbers, &lent);
+    refusal::result(answer.refusal, answer.length)
+}
+
+/// Writes the panel's file in a form to the front of `out` and answers its length, as [`write`](fn@write) does in the
+/// ordinary form.
+///
+/// # Errors
+///
+/// What [`form_length`] refuses, with the same refusal; then [`Refusal::OutputLength`] if `out` is shorter than the
+/// file in this form.
+///
+/// # Panics
+///
+/// As [`file_length`].
+pub fn write_in_form(form: FileForm, panel: &Panel<'_>, out: &mut [u8]) -> Result<usize, Refusal> {
+    let (numbers, lent) = hand_over::of(panel);
+    let answer = sys::form_write(form.code(), numbers, &lent, out);
+    // The file lies in `out`, so that its length is a usize.
+    refusal::result(answer.refusal, answer.length as usize)
+}
+
+/// The panel's file in a form, in a vector of just its length, as [`to_vec`] makes it of the ordinary form.
+///
+/// # Errors
+///
+/// What [`form_length`] refuses, with the same refusal.
+///
+/// # Panics
+///
+/// As [`file_length`].
+pub fn to_vec_in_form(form: FileForm, panel: &Panel<'_>) -> Result<Vec<u8>, Refusal> {
+    let length = form_length(form, panel)?;
+    let mut file = vec![0; length as usize];
+    let written = write_in_form(form, panel, &mut file)?;
+    debug_assert_eq!(written as u64, length);
+    Ok(file)
+}
+
+/// Writes the panel's whole file in a form to `out`, flushes it, and answers the file's length, as [`write_to`] does in
+/// the ordinary form.
+///
+/// # Errors
+///
+/// [`WriteError::Refused`] where [`form_length`] refuses the panel, and [`WriteError::Io`] where `out` fails, as with
+/// [`write_to`].
+///
+/// # Panics
+///
+/// As [`file_length`], and where `out` does.
+pub fn write_to_in_form(form: FileForm, panel: &Panel<'_>, mut out: impl io::Write) -> Result<u64, WriteError> {
+    let file = to_vec_in_form(form, panel)?;
     out.write_all(&file)?;
     out.flush()?;
     Ok(file.len() as u64)
@@ -224,6 +314,9 @@ pub fn write_to(panel: &Panel<'_>, mut out: impl io::Write) -> Result<u64, Write
 /// The payload of the tile with this item id: that very part of the colour bytes or of the alpha bytes.
 ///
 /// With n tiles in each picture, the colour tiles have the ids 1 to n and the alpha tiles n + 2 to 2n + 1.
+///
+/// The lookup keeps to ids of 16 bits. In a [wide](FileForm::Wide) file the tiles have the same ids; where it has more
+/// than 32,766 tiles in a picture, the lookup refuses with [`Refusal::ItemIds`].
 ///
 /// # Errors
 ///

@@ -10,8 +10,8 @@ macro_rules! refusals {
         ///
         /// A panel is checked in the order 1, 22, 8, 2, 3, 4, 5, 6; only a call that is lent room answers 6. A tile
         /// lookup answers 2, 3, 4 or 7, in this order, and a sheet is read first, and refused with 15 or with the first
-        /// of 11 to 14 that the reading meets. In C a panel can be refused with 13; the types of this crate have no
-        /// code that stands for nothing.
+        /// of 11 to 14 that the reading meets. In C a panel, or the form of its file, can be refused with 13; the types
+        /// of this crate have no code that stands for nothing.
         #[derive(Clone, Copy, Debug, PartialEq, Eq, PartialOrd, Ord, Hash)]
         #[non_exhaustive]
         pub enum Refusal {
@@ -46,7 +46,8 @@ refusals! {
     1 GridSide "there are no rows or no columns, or more than 256"
     2 TileCount "there is not exactly one sample length for each tile, in the colour list or in the alpha list"
     3 SampleLengths "the lengths do not add up to the sample bytes that were handed over"
-    4 ItemIds "there are so many tiles that the last item id would be above 65,535"
+    4 ItemIds
+        "there are too many tiles: the last item id or, in the wide form, the count in a picture would be above 65,535"
     5 FileLength "the file would be longer than 4,294,967,295 bytes"
     6 OutputLength "the room for the file is too short"
     7 NoTile "the item id names no tile"
@@ -54,7 +55,7 @@ refusals! {
     11 SheetEnds "the sheet ends before its fields do"
     12 SheetMap
         "the sheet's map asks for something that there is not, or for a part without the part that it belongs to"
-    13 SheetCode "a depth, an orientation, a colour code or a yes or no is none that exists"
+    13 SheetCode "a form of the file, a depth, an orientation, a colour code, or a yes or no is none that exists"
     14 SheetBytesLeft "bytes are left over behind the sheet's last field"
     15 SheetLength "the sheet has more than 12,288 bytes"
     22 VisibleSize

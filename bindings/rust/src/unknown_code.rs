@@ -2,8 +2,8 @@
 
 use std::fmt;
 
-/// A number that stands for no value of the type that it was to become: a colour code, a depth, an orientation or the
-/// number of a refusal. It says what was given, and what there is.
+/// A number that stands for no value of the type that it was to become: a colour code, a depth, an orientation, a form
+/// or the number of a refusal. It says what was given, and what there is.
 ///
 /// ```
 /// use kahopiru::Cicp;

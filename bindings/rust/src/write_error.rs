@@ -3,7 +3,7 @@
 use crate::Refusal;
 use std::{error, fmt, io};
 
-/// Why [`write_to`](crate::write_to) has not written the whole file.
+/// Why [`write_to`](crate::write_to), or the same [in a form](crate::write_to_in_form), has not written the whole file.
 #[derive(Debug)]
 pub enum WriteError {
     /// The panel is refused; nothing was written.

@@ -1,7 +1,9 @@
 //! Numbers that become values: every value comes back from its number, and every other number is an error that says
 //! which numbers there are.
 
-use kahopiru::{BitDepth, MatrixCoefficients, Orientation, Primaries, Refusal, TransferFunction, UnknownCode};
+use kahopiru::{
+    BitDepth, FileForm, MatrixCoefficients, Orientation, Primaries, Refusal, TransferFunction, UnknownCode,
+};
 use std::collections::BTreeSet;
 use std::fmt::Debug;
 
@@ -66,6 +68,12 @@ fn orientations_come_back_by_exif_and_by_code() {
     round_trip(&Orientation::ALL, Orientation::code, Orientation::from_code);
     assert_eq!(Orientation::ALL.map(Orientation::exif), [1, 2, 3, 4, 5, 6, 7, 8]);
     assert_eq!(Orientation::from_exif(6), Ok(Orientation::Rotate90));
+}
+
+#[test]
+fn forms_come_back_by_code() {
+    round_trip(&FileForm::ALL, FileForm::code, FileForm::from_code);
+    assert_eq!(FileForm::ALL.map(FileForm::code), [0, 3]);
 }
 
 #[test]

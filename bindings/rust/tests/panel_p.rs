@@ -2,29 +2,12 @@
 
 mod common;
 
+use common::boxes::{box_at, hold_boxes, holds};
 use common::{p, with_gain};
 use kahopiru::{
     file_length, to_vec, write, BitDepth, Cicp, ColorMetadata, ContentLightLevel, EncodedGainMap, Metadata,
     Orientation, Panel, VisibleSize,
 };
-
-/// The size and type of the box that begins at an offset.
-fn box_at(file: &[u8], at: usize) -> (usize, &[u8]) {
-    let size = u32::from_be_bytes(file[at..at + 4].try_into().unwrap());
-    (size as usize, &file[at + 4..at + 8])
-}
-
-/// Holds a file to boxes, each by its type, its offset and its size.
-fn hold_boxes(file: &[u8], boxes: &[(&[u8; 4], usize, usize)]) {
-    for &(name, at, size) in boxes {
-        assert_eq!(box_at(file, at), (size, &name[..]), "at {at}");
-    }
-}
-
-/// Whether bytes occur in a file.
-fn holds(file: &[u8], bytes: &[u8]) -> bool {
-    file.windows(bytes.len()).any(|w| w == bytes)
-}
 
 #[test]
 fn every_box_is_where_the_specification_says() {

@@ -2,7 +2,7 @@
 
 mod common;
 
-use common::{p, with_gain};
+use common::{grid, p, with_gain};
 use kahopiru::{file_length, sys, to_vec, write, GridDims, Panel, Refusal, Samples, VisibleSize};
 
 /// What refuses a panel: the same for every call, and no byte of the output is touched.
@@ -15,13 +15,6 @@ fn refusal(panel: &Panel<'_>) -> Refusal {
         assert!(out.iter().all(|&b| b == 0x5A), "a refusal touched the output");
     }
     why
-}
-
-/// A panel of so many tiles, all of them empty.
-fn grid(cols: u32, rows: u32, lengths: &[u32]) -> Panel<'_> {
-    let samples = Samples { lengths, bytes: &[] };
-    let dims = GridDims { cols, rows, ..p().dims };
-    Panel { dims, color_samples: samples, alpha_samples: samples, ..p() }
 }
 
 #[test]
@@ -188,14 +181,17 @@ const WORDS: [(u32, &str); 14] = [
     (1, "there are no rows or no columns, or more than 256"),
     (2, "there is not exactly one sample length for each tile, in the colour list or in the alpha list"),
     (3, "the lengths do not add up to the sample bytes that were handed over"),
-    (4, "there are so many tiles that the last item id would be above 65,535"),
+    (
+        4,
+        "there are too many tiles: the last item id or, in the wide form, the count in a picture would be above 65,535",
+    ),
     (5, "the file would be longer than 4,294,967,295 bytes"),
     (6, "the room for the file is too short"),
     (7, "the item id names no tile"),
     (8, "a size of a tile or of the whole picture is 0, or what the tiles show does not cover the whole picture"),
     (11, "the sheet ends before its fields do"),
     (12, "the sheet's map asks for something that there is not, or for a part without the part that it belongs to"),
-    (13, "a depth, an orientation, a colour code or a yes or no is none that exists"),
+    (13, "a form of the file, a depth, an orientation, a colour code, or a yes or no is none that exists"),
     (14, "bytes are left over behind the sheet's last field"),
     (15, "the sheet has more than 12,288 bytes"),
     (22, "a tile's visible size is 0 or above its decoded size, or its decoded size is above 2,147,483,647"),

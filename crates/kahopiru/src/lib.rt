@@ -1,6 +1,6 @@
-// The functions of the static library: the length of a panel's file, the file, the file of a panel sheet (sheet_call), and where a tile
-// lies (tile). A panel comes as numbers and codes, its byte parts lent beside them, each as a pointer and a length. A code that stands for
-// nothing is refused before all checks.
+// The functions of the static library: the length of a panel's file in a form and the file, in the ordinary form where none is named; the
+// file of a panel sheet (sheet_call), and where a tile lies (tile). A panel comes as numbers and codes, its byte parts lent beside them,
+// each as a pointer and a length. A code that stands for nothing is refused before all checks.
 
 #![tactic(auto)]
 
@@ -9,19 +9,21 @@ pub mod sheet_call;
 pub mod tile;
 
 ghost use Rattle.std.specs.Prelude.{◌≡◌, length};
+ghost use Rattle.panel.specs.Form.{ordinary, form_of};
 ghost use Rattle.panel.specs.Of.{tiles_of};
 ghost use Rattle.panel.specs.Outcome.{says_by};
 ghost use Rattle.c_types.specs.Lent.{lent, lent_of};
 ghost use Rattle.c_types.specs.Told.{told};
-ghost use Rattle.kahopiru.specs.Calls.{said_length, said, after_call};
+ghost use Rattle.kahopiru.specs.Calls.{said_length, said, after_call, said_length_in, said_in, after_call_in};
 ghost use Rattle.kahopiru.specs.Refusal.{call_number};
 
 use c_numbers::panel_from;
 use c_types::{LentParts, PanelCodes, Told};
-use panel::{Samples, Tiles};
-use plan::file_length;
+use panel::{FileForm, Samples, Tiles};
+use panel_codes::named;
+use plan::form_length;
 use refusal::CallRefusal;
-use write_file::wrap_hevc_grid_with_alpha;
+use write_file::wrap_in_form;
 
 // A picture's tiles.
 fn tiles<'a>(hvcc: &'a [u8], lengths: &'a [u32], bytes: &'a [u8]) -> Tiles<'a>
@@ -33,28 +35,59 @@ fn tiles<'a>(hvcc: &'a [u8], lengths: &'a [u32], bytes: &'a [u8]) -> Tiles<'a>
     }
 }
 
-// The length of a panel's file, of byte parts that stand in one struct; or why the call is refused.
+// The length of a panel's file in a form, of byte parts that stand in one struct; or why the call is refused.
 #[tactic(auto, unfolding(crate::specs::Calls::said_length))]
-fn length_from(panel: PanelCodes, parts: &LentParts) -> Result<u64, CallRefusal>
-    ensures { says_by call_number result ≡ said_length panel (lent_of parts.now) }
+fn length_from(form: FileForm, panel: PanelCodes, parts: &LentParts) -> Result<u64, CallRefusal>
+    ensures { says_by call_number result ≡ said_length (form_of form) panel (lent_of parts.now) }
 {
     let panel = panel_from(panel, parts)?;
-    Ok(file_length(&panel)?)
+    Ok(form_length(form, &panel)?)
 }
 
-// The file of a panel, of byte parts that stand in one struct, in the output; or why the call is refused, and the output as it was.
+// The same in the form with this code.
+#[tactic(auto, unfolding(crate::specs::Calls::said_length_in))]
+fn length_in(form: u8, panel: PanelCodes, parts: &LentParts) -> Result<u64, CallRefusal>
+    ensures { says_by call_number result ≡ said_length_in form panel (lent_of parts.now) }
+{
+    let form = named(form as u16)?;
+    length_from(form, panel, parts)
+}
+
+// The file of a panel in a form, of byte parts that stand in one struct, in the output; or why the call is refused, and all as it was.
 #[tactic(auto, unfolding(crate::specs::Calls::said, crate::specs::Calls::after_call))]
-fn write_from(panel: PanelCodes, parts: &LentParts, out: &mut [u8]) -> Result<u64, CallRefusal>
-    ensures answer { says_by call_number result ≡ said panel (lent_of parts.now) (length out.old) }
-    ensures out_after { out.new ≡ after_call panel (lent_of parts.now) out.old }
+fn write_from(
+    form: FileForm,
+    panel: PanelCodes,
+    parts: &LentParts,
+    out: &mut [u8],
+) -> Result<u64, CallRefusal>
+    ensures answer { says_by call_number result ≡ said (form_of form) panel (lent_of parts.now) (length out.old) }
+    ensures out_after { out.new ≡ after_call (form_of form) panel (lent_of parts.now) out.old }
 {
     let panel = panel_from(panel, parts)?;
-    Ok(wrap_hevc_grid_with_alpha(&panel, out)?)
+    Ok(wrap_in_form(form, &panel, out)?)
 }
 
-// The length of a panel's file, or the number of its refusal. C hands over each part as two arguments, so that this call and the next name
-// all of them. Each builds the struct itself: a function for it would take the parts by place, where here each has its name.
+// The same in the form with this code.
+#[tactic(auto, unfolding(crate::specs::Calls::said_in, crate::specs::Calls::after_call_in))]
+fn write_in(
+    form: u8,
+    panel: PanelCodes,
+    parts: &LentParts,
+    out: &mut [u8],
+) -> Result<u64, CallRefusal>
+    ensures answer { says_by call_number result ≡ said_in form panel (lent_of parts.now) (length out.old) }
+    ensures out_after { out.new ≡ after_call_in form panel (lent_of parts.now) out.old }
+{
+    let form = named(form as u16)?;
+    write_from(form, panel, parts, out)
+}
+
+// The length of a panel's file in the ordinary form, or the number of its refusal. C hands over each part as two arguments, so that the
+// calls over a panel name all of them. Each builds the struct itself: a function for it would take the parts by place, where here each has
+// its name; and so would a call without a form that handed on to the one with a form.
 #[unsafe(no_mangle)]
+#[tactic(auto, unfolding(panel::specs::Form::form_of))]
 pub extern "C" fn kahopiru_file_length(
     panel: PanelCodes,
     color_hvcc: &[u8],
@@ -71,7 +104,7 @@ pub extern "C" fn kahopiru_file_length(
     gain_tmap: &[u8],
     alternate_icc: &[u8],
 ) -> Told
-    ensures { result ≡ told (said_length panel (lent color_hvcc.now alpha_hvcc.now color_lengths.now alpha_lengths.now color_samples.now alpha_samples.now icc.now exif.now gain_hvcc.now gain_sample.now gain_xmp.now gain_tmap.now alternate_icc.now)) }
+    ensures { result ≡ told (said_length ordinary panel (lent color_hvcc.now alpha_hvcc.now color_lengths.now alpha_lengths.now color_samples.now alpha_samples.now icc.now exif.now gain_hvcc.now gain_sample.now gain_xmp.now gain_tmap.now alternate_icc.now)) }
 {
     let parts = LentParts {
         color: tiles(color_hvcc, color_lengths, color_samples),
@@ -84,11 +117,12 @@ pub extern "C" fn kahopiru_file_length(
         gain_tmap,
         alternate_icc,
     };
-    length_from(panel, &parts).into()
+    length_from(FileForm::Ordinary, panel, &parts).into()
 }
 
-// The file of a panel in the output, and its length; or the number of its refusal, and the output as it was.
+// The file of a panel in the ordinary form in the output, and its length; or the number of its refusal, and the output as it was.
 #[unsafe(no_mangle)]
+#[tactic(auto, unfolding(panel::specs::Form::form_of))]
 pub extern "C" fn kahopiru_write(
     panel: PanelCodes,
     color_hvcc: &[u8],
@@ -106,8 +140,8 @@ pub extern "C" fn kahopiru_write(
     alternate_icc: &[u8],
     out: &mut [u8],
 ) -> Told
-    ensures value { result ≡ told (said panel (lent color_hvcc.now alpha_hvcc.now color_lengths.now alpha_lengths.now color_samples.now alpha_samples.now icc.now exif.now gain_hvcc.now gain_sample.now gain_xmp.now gain_tmap.now alternate_icc.now) (length out.old)) }
-    ensures out_after { out.new ≡ after_call panel (lent color_hvcc.now alpha_hvcc.now color_lengths.now alpha_lengths.now color_samples.now alpha_samples.now icc.now exif.now gain_hvcc.now gain_sample.now gain_xmp.now gain_tmap.now alternate_icc.now) out.old }
+    ensures value { result ≡ told (said ordinary panel (lent color_hvcc.now alpha_hvcc.now color_lengths.now alpha_lengths.now color_samples.now alpha_samples.now icc.now exif.now gain_hvcc.now gain_sample.now gain_xmp.now gain_tmap.now alternate_icc.now) (length out.old)) }
+    ensures out_after { out.new ≡ after_call ordinary panel (lent color_hvcc.now alpha_hvcc.now color_lengths.now alpha_lengths.now color_samples.now alpha_samples.now icc.now exif.now gain_hvcc.now gain_sample.now gain_xmp.now gain_tmap.now alternate_icc.now) out.old }
 {
     let parts = LentParts {
         color: tiles(color_hvcc, color_lengths, color_samples),
@@ -120,5 +154,77 @@ pub extern "C" fn kahopiru_write(
         gain_tmap,
         alternate_icc,
     };
-    write_from(panel, &parts, out).into()
+    write_from(FileForm::Ordinary, panel, &parts, out).into()
+}
+
+// The length of a panel's file in the form with this code, or the number of the refusal.
+#[unsafe(no_mangle)]
+pub extern "C" fn kahopiru_form_length(
+    form: u8,
+    panel: PanelCodes,
+    color_hvcc: &[u8],
+    alpha_hvcc: &[u8],
+    color_lengths: &[u32],
+    alpha_lengths: &[u32],
+    color_samples: &[u8],
+    alpha_samples: &[u8],
+    icc: &[u8],
+    exif: &[u8],
+    gain_hvcc: &[u8],
+    gain_sample: &[u8],
+    gain_xmp: &[u8],
+    gain_tmap: &[u8],
+    alternate_icc: &[u8],
+) -> Told
+    ensures { result ≡ told (said_length_in form panel (lent color_hvcc.now alpha_hvcc.now color_lengths.now alpha_lengths.now color_samples.now alpha_samples.now icc.now exif.now gain_hvcc.now gain_sample.now gain_xmp.now gain_tmap.now alternate_icc.now)) }
+{
+    let parts = LentParts {
+        color: tiles(color_hvcc, color_lengths, color_samples),
+        alpha: tiles(alpha_hvcc, alpha_lengths, alpha_samples),
+        icc,
+        exif,
+        gain_hvcc,
+        gain_sample,
+        gain_xmp,
+        gain_tmap,
+        alternate_icc,
+    };
+    length_in(form, panel, &parts).into()
+}
+
+// The file of a panel in the form with this code in the output, and its length; or the number of the refusal, and the output as it was.
+#[unsafe(no_mangle)]
+pub extern "C" fn kahopiru_form_write(
+    form: u8,
+    panel: PanelCodes,
+    color_hvcc: &[u8],
+    alpha_hvcc: &[u8],
+    color_lengths: &[u32],
+    alpha_lengths: &[u32],
+    color_samples: &[u8],
+    alpha_samples: &[u8],
+    icc: &[u8],
+    exif: &[u8],
+    gain_hvcc: &[u8],
+    gain_sample: &[u8],
+    gain_xmp: &[u8],
+    gain_tmap: &[u8],
+    alternate_icc: &[u8],
+    out: &mut [u8],
+) -> Told
+    ensures value { result ≡ told (said_in form panel (lent color_hvcc.now alpha_hvcc.now color_lengths.now alpha_lengths.now color_samples.now alpha_samples.now icc.now exif.now gain_hvcc.now gain_sample.now gain_xmp.now gain_tmap.now alternate_icc.now) (length out.old)) }
+    ensures out_after { out.new ≡ after_call_in form panel (lent color_hvcc.now alpha_hvcc.now color_lengths.now alpha_lengths.now color_samples.now alpha_samples.now icc.now exif.now gain_hvcc.now gain_sample.now gain_xmp.now gain_tmap.now alternate_icc.now) out.old }
+{
+    let parts = LentParts {
+        color: tiles(color_hvcc, color_lengths, color_samples),
+        alpha: tiles(alpha_hvcc, alpha_lengths, alpha_samples),
+        icc,
+        exif,
+        gain_hvcc,
+        gain_sample,
+        gain_xmp,
+        gain_tmap,
+        alternate_icc,
+    };
+    write_in(form, panel, &parts, out).into()
 }

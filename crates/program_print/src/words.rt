@@ -21,7 +21,7 @@ pub fn words_of(refusal: SheetRefusal) -> &'static str {
             "the sheet's map asks for something that there is not, or for a part without the part that it belongs to"
         }
         SheetRefusal::Code => {
-            "a depth, an orientation, a colour code or a yes or no is none that exists"
+            "a form of the file, a depth, an orientation, a colour code, or a yes or no is none that exists"
         }
         SheetRefusal::LeftOver => "bytes are left over behind the sheet's last field",
         SheetRefusal::TooLong => "the sheet has more than 12,288 bytes",

@@ -1,8 +1,9 @@
-//! What several tests use: the smallest panel and one with a gain map, here; random panels, sheets and the tables of
-//! docs/LENGTH.md, each in a module.
+//! What several tests use: the smallest panel, one with a grid and one with a gain map, here; boxes, random panels,
+//! sheets and the tables of docs/LENGTH.md, each in a module.
 #![allow(dead_code)] // each test file uses its own part
 
 pub mod accepted;
+pub mod boxes;
 pub mod listed;
 pub mod random;
 pub mod sheet;
@@ -22,7 +23,14 @@ pub fn p() -> Panel<'static> {
     }
 }
 
-/// The same with a gain map: record 01 01, sample CC, no XMP.
+/// The same with a grid of empty tiles, one for each of these lengths.
+pub fn grid(cols: u32, rows: u32, lengths: &[u32]) -> Panel<'_> {
+    let samples = Samples { lengths, bytes: &[] };
+    let dims = GridDims { cols, rows, ..p().dims };
+    Panel { dims, color_samples: samples, alpha_samples: samples, ..p() }
+}
+
+/// P with a gain map: record 01 01, sample CC, no XMP.
 pub fn with_gain(tmap: Option<&'static [u8]>) -> Panel<'static> {
     let gain = EncodedGainMap {
         hvcc: &[0x01, 0x01],
