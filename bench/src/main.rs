@@ -1,5 +1,5 @@
-//! Times upstream's function, the writer and memcpy of as many bytes, all in one run, and prints three tables: times,
-//! ratios, and how both grow with the number of tiles. Nothing is asserted of a time.
+//! Times upstream's function, the writer in either form and memcpy of as many bytes, all in one run, and prints three
+//! tables: times, ratios, and how they grow with the number of tiles. Nothing is asserted of a time.
 
 mod panels;
 mod rooms;
@@ -20,14 +20,20 @@ const GRIDS: [(u32, u32, usize, usize); 6] =
     [(1, 1, 64, 1000), (10, 1, 32, 500), (10, 10, 16, 200), (100, 10, 4, 100), (100, 100, 1, 50), (200, 160, 1, 30)];
 const GROWTH_SAMPLE: usize = 64;
 
+/// More tiles than the ordinary form takes, for the last row: columns, rows, calls at once, rounds.
+const WIDE_ALONE: (u32, u32, usize, usize) = (255, 256, 1, 30);
+
 /// Ratios of like with like.
-const RATIOS: [(What, What); 6] = [
+const RATIOS: [(What, What); 9] = [
     (What::ToVecFresh, What::UpstreamFresh),
     (What::WriteFresh, What::UpstreamFresh),
     (What::WriteFresh, What::CopyFresh),
     (What::ToVecWarm, What::UpstreamWarm),
     (What::WriteWarm, What::UpstreamWarm),
     (What::WriteWarm, What::CopyWarm),
+    (What::WideFresh, What::WriteFresh),
+    (What::WideWarm, What::WriteWarm),
+    (What::WideLength, What::Length),
 ];
 
 /// Microseconds, with as many digits as mean something.
@@ -89,18 +95,38 @@ fn panels() {
 
 /// The last table.
 fn growth() {
-    let what = [What::UpstreamWarm, What::WriteWarm, What::Length];
+    const OURS: [What; 4] = [What::WriteWarm, What::WideWarm, What::Length, What::WideLength];
+    let what = [[What::UpstreamWarm].as_slice(), &OURS].concat();
     println!(
         "\nGrowth, with samples of {GROWTH_SAMPLE} bytes: microseconds of one call (least), and nanoseconds a tile.\n"
     );
-    let names: Vec<String> = what.iter().map(|w| w.name().to_string()).collect();
+    let ratios = ["wide ÷ write, warm", "wide length ÷ file_length"].map(String::from);
+    let names: Vec<String> = what.iter().map(|w| w.name().to_string()).chain(ratios).collect();
     head("tiles of colour and as many of alpha", &names);
     for (cols, rows, batch, count) in GRIDS {
         let mut job = Job::new(Tiles::new(cols, rows, GROWTH_SAMPLE), batch);
-        let tiles = f64::from(cols * rows);
-        let cell = |t: Times| format!("{} ({:.1} ns)", micros(t.least), t.least / tiles);
-        row(&(cols * rows).to_string(), rounds(&mut job, &what, count).into_iter().map(cell));
+        let tiles = cols * rows;
+        let times = rounds(&mut job, &what, count);
+        let ratio = |over: usize| format!("{:.2}", times[over].least / times[over - 1].least);
+        let cells = times.iter().map(|time| per_tile(*time, tiles));
+        row(&tiles.to_string(), cells.chain([ratio(2), ratio(4)]));
     }
+    wide_alone();
+}
+
+/// The row of a panel that has no ordinary file.
+fn wide_alone() {
+    let (cols, rows, batch, count) = WIDE_ALONE;
+    let mut job = Job::wide_alone(Tiles::new(cols, rows, GROWTH_SAMPLE), batch);
+    let times = rounds(&mut job, &[What::WideWarm, What::WideLength], count);
+    let [wide, length] = [times[0], times[1]].map(|time| per_tile(time, cols * rows));
+    let none = || String::from("–");
+    row(&(cols * rows).to_string(), [none(), none(), wide, none(), length, none(), none()]);
+}
+
+/// A time, and how much of it falls on a tile.
+fn per_tile(time: Times, tiles: u32) -> String {
+    format!("{} ({:.1} ns)", micros(time.least), time.least / f64::from(tiles))
 }
 
 fn main() {

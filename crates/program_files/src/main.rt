@@ -1,7 +1,7 @@
 // Writes files to standard output, each with the bytes of the output behind it that it leaves as they are: panel P with each value of each
-// enum, its alpha at each depth, and a panel with every part. Then it prints what the tile lookup gives for ids. The file `stdout` beside
-// src/ has what the Rust writes for values of the same names, with the alpha depth put in where it is another than the colour's, and which
-// part of its files each tile is.
+// enum, its alpha at each depth, and a panel with every part, in the ordinary form and in the wide one. Then it prints what the tile lookup
+// gives for ids. The file `stdout` beside src/ has what the Rust writes for values of the same names, with the alpha depth put in where it
+// is another than the colour's, and made wide where that is asked for; and which part of the files each tile is.
 
 #![tactic(auto)]
 
@@ -14,12 +14,12 @@ use panel::color::{Cicp, ColorMetadata, MatrixCoefficients, Primaries, TransferF
 use panel::fmt::BitDepth;
 use panel::gain_map::EncodedGainMap;
 use panel::metadata::{ContentLightLevel, Metadata, Orientation};
-use panel::{GridDims, Panel, Samples, Tiles};
+use panel::{FileForm, GridDims, Panel, Samples, Tiles};
 use std::io;
-use write_file::wrap_hevc_grid_with_alpha;
+use write_file::wrap_in_form;
 
 // The code points of the picture and of its alternate.
-fn wide() -> Cicp {
+fn large_gamut() -> Cicp {
     Cicp {
         primaries: Primaries::Bt2020,
         transfer: TransferFunction::Smpte2084,
@@ -28,8 +28,8 @@ fn wide() -> Cicp {
     }
 }
 
-// Writes a panel with every part, two tiles of 64 × 48 for a picture of 100 × 40, and the four bytes of the output behind its file.
-fn write_full(rt: &impl Print) -> io::Result<()> {
+// Writes a panel with every part, two tiles of 64 × 48 for a picture of 100 × 40, in a form, and the bytes of the output behind its file.
+fn write_full(rt: &impl Print, form: FileForm) -> io::Result<()> {
     let panel = Panel {
         dims: GridDims {
             cols: 2,
@@ -57,7 +57,7 @@ fn write_full(rt: &impl Print) -> io::Result<()> {
             },
         },
         color_meta: ColorMetadata {
-            cicp: Some(wide()),
+            cicp: Some(large_gamut()),
             icc: Some(&[0x11, 0x12, 0x13]),
         },
         metadata: Metadata {
@@ -83,19 +83,20 @@ fn write_full(rt: &impl Print) -> io::Result<()> {
             xmp: &[0x41, 0x42, 0x43],
             tmap: Some(&[0x51]),
             alternate_color: Some(ColorMetadata {
-                cicp: Some(wide()),
+                cicp: Some(large_gamut()),
                 icc: Some(&[0x61, 0x62]),
             }),
         }),
     };
-    // Four bytes longer than the file, as nothing here allocates: what is behind the file is printed too.
-    let mut out = [0xEEu8; 1186];
-    let _ = wrap_hevc_grid_with_alpha(&panel, &mut out);
+    // Four bytes longer than the wide file, as nothing here allocates: what is behind the file is printed too.
+    let mut out = [0xEEu8; 1282];
+    let _ = wrap_in_form(form, &panel, &mut out);
     rt.write_all(&out)
 }
 
 fn main(rt: HostRuntime) -> io::Result<()> {
     write_names(&rt)?;
-    write_full(&rt)?;
+    write_full(&rt, FileForm::Ordinary)?;
+    write_full(&rt, FileForm::Wide)?;
     print_lookups(&rt)
 }

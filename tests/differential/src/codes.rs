@@ -2,10 +2,10 @@
 
 use crate::compare::{judge, same_answer, Room};
 use crate::panels::{full, p, Case};
-use crate::predict;
+use crate::predict::{self, Answer};
 use crate::random::Rng;
 use crate::run::Run;
-use crate::{raw, reference};
+use crate::{orders, raw, reference};
 use kahopiru::{sys, GridDims, VisibleSize};
 use std::ops::RangeInclusive;
 
@@ -94,8 +94,11 @@ pub fn run(run: &mut Run) -> (u64, u64) {
 /// A panel in which only one code may be wrong.
 fn one(mut panel: sys::Panel, named: bool, lent: &sys::Lent<'_>, room: &mut Room) -> Result<(), String> {
     let length = raw::answer(sys::file_length(panel, lent));
-    // Which length it is, other sets compare; here it is only that there is one.
-    same_answer(if named { Ok(0) } else { Err(13) }, length.map(|_| 0))?;
+    let wide = raw::answer(sys::form_length(3, panel, lent));
+    for length in [length, wide] {
+        // Which length it is, other sets compare; here it is only that there is one.
+        same_answer(if named { Ok(0) } else { Err(13) }, length.map(|_| 0))?;
+    }
     if !named {
         // Also where the output is too short.
         for size in [2000, 10] {
@@ -108,6 +111,45 @@ fn one(mut panel: sys::Panel, named: bool, lent: &sys::Lent<'_>, room: &mut Room
     same_answer(expected, raw::answer(sys::file_length(panel, lent)))?;
     let answer = raw::answer(sys::write(panel, lent, room.lend(2000)));
     judge(expected, &[], answer, room)
+}
+
+/// The codes of the forms that there are.
+const FORMS: [u8; 2] = [0, 3];
+
+/// Every code that names no form, beside panels that are accepted, panels of which a code names nothing either, and all
+/// for which two checks hold: 13 comes first. Answers how many calls were made.
+pub fn unnamed_forms(run: &mut Run) -> u64 {
+    let mut room = Room::new();
+    let before = run.calls;
+    let mut with = |what: &str, numbers: sys::Panel, lent: &sys::Lent<'_>| {
+        for form in (0..=u8::MAX).filter(|form| !FORMS.contains(form)) {
+            run.calls += 3;
+            if let Err(why) = unnamed(form, numbers, lent, &mut room) {
+                run.fail(&format!("form {form}, {what}"), &why, &numbers);
+            }
+        }
+    };
+    for case in [p(), full()] {
+        let (good, lent) = (raw::numbers(&case, &mut Rng::new(0)), raw::lent(&case, &[]));
+        with("a panel that is accepted", good, &lent);
+        with("a panel whose depth names nothing", sys::Panel { bit_depth: 3, ..good }, &lent);
+        with("a panel of which nothing is right", sys::Panel { cols: 0, has_gain: 2, ..good }, &sys::Lent::default());
+    }
+    orders::each_spoiled(&mut |[first, second], numbers, lent| {
+        with(&format!("a panel where {first} and {second} hold"), numbers, lent);
+    });
+    run.calls - before
+}
+
+/// The length call and the writing call that are told such a code.
+fn unnamed(form: u8, numbers: sys::Panel, lent: &sys::Lent<'_>, room: &mut Room) -> Result<(), String> {
+    const REFUSED: Answer = Err(13);
+    same_answer(REFUSED, raw::answer(sys::form_length(form, numbers, lent)))?;
+    for size in [700, 0] {
+        let answer = raw::answer(sys::form_write(form, numbers, lent, room.lend(size)));
+        judge(REFUSED, &[], answer, room)?;
+    }
+    Ok(())
 }
 
 /// Every has_visible beside every size of interest, good or not: 0 looks at none of them, 1 at both, and any other is

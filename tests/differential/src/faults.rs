@@ -13,7 +13,7 @@ use crate::{reference, upstream};
 use kahopiru::{GridDims, Metadata, Panel};
 
 /// A panel with a visible size and with all that stands before the clap or moves with it, of two tiles.
-fn panel() -> Case {
+pub fn panel() -> Case {
     let mut case = full().with_grid(2, 1, vec![2, 1], vec![1, 3]);
     (case.dims.full_w, case.dims.full_h) = (120, 60);
     case.with_visible(63, 61)
@@ -172,7 +172,7 @@ fn places(cut: &Cut) -> Vec<Trial> {
 }
 
 /// What was said, if this is why.
-fn because(said: String, why: &str) -> Result<(), String> {
+pub fn because(said: String, why: &str) -> Result<(), String> {
     if said.contains(why) {
         Err(said)
     } else {

@@ -1,6 +1,7 @@
 //! Parts that end at, or begin at, a page that cannot be touched: a read or a store one byte outside of what is lent
 //! stops the program.
 
+use crate::calls::{Calls, WIDE};
 use crate::memory::{Fenced, Side};
 use crate::panels::Case;
 use crate::random::{self, Rng};
@@ -12,12 +13,12 @@ fn list(lengths: &[u32], side: Side) -> Fenced {
     Fenced::new(&lengths.iter().flat_map(|l| l.to_ne_bytes()).collect::<Vec<u8>>(), side)
 }
 
-/// Both calls on a panel all of whose parts are fenced, into an output that is fenced too.
+/// Both calls on a panel all of whose parts are fenced, into an output that is fenced too; in either form.
 fn fenced(case: &Case, side: Side, rng: &mut Rng) -> Result<(), String> {
     let file = reference::file(case)?;
     let numbers = raw::numbers(case, rng);
     let lent = raw::lent(case, &[0xD7]);
-    let part = |bytes| Fenced::new(bytes, side);
+    let part = |bytes: &[u8]| Fenced::new(bytes, side);
     let (color_lengths, alpha_lengths) = (list(lent.color_lengths, side), list(lent.alpha_lengths, side));
     let records = [part(lent.color_hvcc), part(lent.alpha_hvcc), part(lent.gain_hvcc)];
     let samples = [part(lent.color_samples), part(lent.alpha_samples), part(lent.gain_sample)];
@@ -37,14 +38,16 @@ fn fenced(case: &Case, side: Side, rng: &mut Rng) -> Result<(), String> {
         gain_tmap: rest[3].slice(),
         alternate_icc: rest[4].slice(),
     };
-    let good = Ok(file.len() as u64);
-    let mut out = part(&vec![0x5A; file.len()]);
-    if raw::answer(sys::file_length(numbers, &lent)) != good
-        || raw::answer(sys::write(numbers, &lent, out.bytes())) != good
-    {
-        return Err("another answer than without fences".into());
+    let wide = reference::wide_file(case, Some(&file))?;
+    for (calls, file) in [(Calls::Plain, file), (WIDE, wide)] {
+        let good = Ok(file.len() as u64);
+        let mut out = part(&vec![0x5A; file.len()]);
+        if calls.raw_length(numbers, &lent) != good || calls.raw_write(numbers, &lent, out.bytes()) != good {
+            return Err(format!("another answer{calls} than without fences"));
+        }
+        crate::compare::same_file(&file, out.slice())?;
     }
-    crate::compare::same_file(&file, out.slice())
+    Ok(())
 }
 
 /// Draws panels and fences each on either side. Answers how many were accepted and so run.

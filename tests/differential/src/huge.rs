@@ -1,12 +1,14 @@
 //! Files around 4,294,967,295 bytes. The length call reads no sample, so that the memory lent need not exist.
 
-use crate::compare::same_answer;
+use crate::calls::{Calls, WIDE};
+use crate::compare::{judge, said, same_answer, Room};
 use crate::memory::Zeros;
 use crate::panels::{full, p, Case};
-use crate::predict;
+use crate::predict::{self, Form};
 use crate::run::Run;
 use crate::tiles::located;
-use kahopiru::{Panel, Refusal, Samples};
+use crate::widen::widen;
+use kahopiru::{Panel, Samples};
 
 const MOST: usize = 4_294_967_295;
 
@@ -30,18 +32,22 @@ fn gain<'p, 'a>(p: &'p mut Panel<'a>) -> &'p mut kahopiru::EncodedGainMap<'a> {
     p.gain_map.as_mut().expect("full has one")
 }
 
+/// The calls that a panel is given to whose length is about the greatest.
+const CALLS: [Calls; 2] = [Calls::Plain, WIDE];
+
 fn check(run: &mut Run, name: &str, panel: &Panel<'_>) {
-    let expected = predict::answer(panel, None);
-    run.count(panel, expected);
-    let length = kahopiru::file_length(panel).map_err(Refusal::number);
-    let mut out = [0x5A; 64];
-    let written = kahopiru::write(panel, &mut out).map(|n| n as u64).map_err(Refusal::number);
-    let outcome = same_answer(expected, length)
-        .and_then(|()| same_answer(predict::answer(panel, Some(out.len())), written))
-        .and_then(|()| if out == [0x5A; 64] { Ok(()) } else { Err("touches the output".into()) });
-    run.calls += 2;
-    if let Err(why) = outcome {
-        run.fail(name, &why, &panel.dims);
+    let mut room = Room::new();
+    for calls in CALLS {
+        run.count(panel, calls);
+        let size = 64;
+        let outcome = same_answer(calls.expected(panel, None), calls.length(panel)).and_then(|()| {
+            let answer = calls.write(panel, room.lend(size));
+            judge(calls.expected(panel, Some(size)), &[], answer, &room)
+        });
+        run.calls += 2;
+        if let Err(why) = outcome {
+            run.fail(&format!("{name}{calls}"), &why, &panel.dims);
+        }
     }
 }
 
@@ -53,9 +59,10 @@ pub fn lengths(run: &mut Run) {
         for (name, put) in PARTS {
             let mut panel = base.panel();
             put(&mut panel, &[]);
-            let rest = predict::answer(&panel, None).expect("the full panel is accepted") as usize;
-            let most = MOST - rest;
-            for count in [most - 1, most, most + 1, MOST, MOST + 1, 2 * MOST, zeros.len()] {
+            // The most in either form; between the two the wide form alone refuses.
+            let most = CALLS.map(|calls| MOST - calls.expected(&panel, None).expect("the panel is accepted") as usize);
+            let around = most.into_iter().flat_map(|most| [most - 1, most, most + 1]);
+            for count in around.chain([MOST, MOST + 1, 2 * MOST, zeros.len()]) {
                 put(&mut panel, &zeros[..count]);
                 check(run, &format!("{name} of {count} bytes"), &panel);
             }
@@ -68,7 +75,8 @@ pub fn lengths(run: &mut Run) {
 /// Samples that make the file long, alone or together, of colour or of alpha.
 fn samples(run: &mut Run, zeros: &[u8]) {
     let most = MOST - 554; // P's file without its two sample bytes
-    for total in [most - 1, most, most + 1] {
+    let most_wide = most - 42;
+    for total in [most_wide - 1, most_wide, most_wide + 1, most - 1, most, most + 1] {
         for color in [0, 1, total / 2, total] {
             let (color_length, alpha_length) = ([color as u32], [(total - color) as u32]);
             let base = p();
@@ -96,10 +104,12 @@ fn everything(run: &mut Run, zeros: &[u8]) {
     check(run, "everything at its longest", &panel);
 }
 
-/// Writes two files of the greatest length, and compares each with upstream's. Takes 12.1 GiB of memory.
+/// Writes files of the greatest length, two ordinary ones and a wide one, and compares each with upstream's, the wide
+/// one with that widened. Takes 8.1 GiB of memory.
 pub fn write(run: &mut Run) {
     one_tile(run);
     many_tiles(run);
+    one_wide_tile(run);
 }
 
 /// As many bytes, of which one in each MiB and the last are not 0.
@@ -118,11 +128,22 @@ fn one_tile(run: &mut Run) {
     let count = MOST - 555; // P's file without its colour sample
     (case.color_lengths, case.color_samples) = (vec![count as u32], striped(count));
     println!("huge: P with a colour sample of {count} bytes, its last byte AA");
-    longest(run, "P", &case);
-    one_byte_more(run, "P", &mut case);
+    longest(run, "P", Calls::Plain, &case);
+    one_byte_more(run, "P", Calls::Plain, &mut case);
     upstream_goes_on(run, &case, MOST);
     add_a_byte(&mut case);
     upstream_goes_on(run, &case, 0);
+}
+
+/// The same in the wide form. One byte more is refused there, and the ordinary form takes it.
+fn one_wide_tile(run: &mut Run) {
+    let mut case = p();
+    let count = MOST - 597; // P's wide file without its colour sample
+    (case.color_lengths, case.color_samples) = (vec![count as u32], striped(count));
+    println!("huge: P in the wide form with a colour sample of {count} bytes");
+    longest(run, "P in the wide form", WIDE, &case);
+    one_byte_more(run, "P in the wide form", WIDE, &mut case);
+    check(run, "P with the first sample that the wide form refuses", &case.panel());
 }
 
 /// Six tiles in each picture with everything optional but Exif, and all that comes last is empty: the last alpha tile,
@@ -142,7 +163,7 @@ fn many_tiles(run: &mut Run) {
     (case.color_lengths, case.color_samples) = (color.to_vec(), striped(sum(color)));
     (case.alpha_lengths, case.alpha_samples) = (alpha.to_vec(), striped(sum(alpha)));
     println!("huge: 3 × 2 tiles with colour samples of {color:?} bytes and alpha samples of {alpha:?}");
-    if let Some(file) = longest(run, "3 × 2 tiles", &case) {
+    if let Some(file) = longest(run, "3 × 2 tiles", Calls::Plain, &case) {
         for (what, id) in [("the last alpha tile", 13), ("the gain image", 15), ("its XMP", 16), ("the tone map", 17)] {
             let place = located(&file, id);
             println!("huge: {what} lies at {place:?}, offset and length");
@@ -151,16 +172,22 @@ fn many_tiles(run: &mut Run) {
             }
         }
     }
-    one_byte_more(run, "3 × 2 tiles", &mut case);
+    one_byte_more(run, "3 × 2 tiles", Calls::Plain, &mut case);
 }
 
-/// The file of a panel, which has the greatest length, if it is upstream's.
-fn longest(run: &mut Run, name: &str, case: &Case) -> Option<Vec<u8>> {
-    *run.panels.entry(0).or_default() += 1;
-    let file = match kahopiru::to_vec(&case.panel()) {
+/// The file of a panel, which has the greatest length, if it is upstream's, or that widened.
+fn longest(run: &mut Run, name: &str, calls: Calls, case: &Case) -> Option<Vec<u8>> {
+    run.count(&case.panel(), calls);
+    // First upstream's, whose copy of the samples is gone then; ordinary, it is gone where it was widened. So there are
+    // never three so long.
+    let theirs = match (calls.form(), crate::upstream::write(case)) {
+        (Form::Ordinary, theirs) => theirs,
+        (Form::Wide, theirs) => theirs.and_then(|file| widen(&file)),
+    };
+    let file = match calls.to_vec(&case.panel()) {
         Ok(file) => file,
-        Err(refusal) => {
-            run.fail(name, &refusal.to_string(), &case.dims);
+        Err(number) => {
+            run.fail(name, &format!("is refused with {number}"), &case.dims);
             return None;
         }
     };
@@ -168,9 +195,9 @@ fn longest(run: &mut Run, name: &str, case: &Case) -> Option<Vec<u8>> {
     if file.len() != MOST {
         run.fail(name, "is not as long as a file may be", &file.len());
     }
-    match crate::upstream::write(case) {
+    match theirs {
         Ok(theirs) if theirs == file => {
-            println!("huge: upstream's file is the same, byte for byte");
+            println!("huge: upstream's file{calls} is the same, byte for byte");
             Some(file)
         }
         Ok(theirs) => {
@@ -190,15 +217,16 @@ fn add_a_byte(case: &mut Case) {
 }
 
 /// With one byte more the panel of a longest file is refused, and the output is as it was.
-fn one_byte_more(run: &mut Run, name: &str, case: &mut Case) {
-    *run.panels.entry(5).or_default() += 1;
+fn one_byte_more(run: &mut Run, name: &str, calls: Calls, case: &mut Case) {
     add_a_byte(case);
-    let length = kahopiru::file_length(&case.panel()).map_err(Refusal::number);
-    let mut out = [0x5A; 600];
-    let answer = kahopiru::write(&case.panel(), &mut out).map_err(Refusal::number);
-    println!("huge: one byte more gives {answer:?}");
-    if length != Err(5) || answer != Err(5) || out != [0x5A; 600] {
-        run.fail(name, "with one byte more is not refused with 5, or touches the output", &case.dims);
+    run.count(&case.panel(), calls);
+    let length = calls.length(&case.panel());
+    let mut room = Room::new();
+    let answer = calls.write(&case.panel(), room.lend(600));
+    println!("huge: one byte more is answered: {}", said(answer));
+    let outcome = same_answer(Err(5), length).and_then(|()| judge(Err(5), &[], answer, &room));
+    if let Err(why) = outcome {
+        run.fail(name, &format!("with one byte more: {why}"), &case.dims);
     }
 }
 

@@ -1,15 +1,19 @@
 //! The writer compared with upstream's: the same panels to both, through the binding and through the archive's own
 //! interface; every answer, every byte of the file, and every byte that must not be written.
 
+mod boxes;
+mod calls;
 mod clap;
 mod codes;
 mod compare;
 mod coverage;
 mod differences;
+mod edges;
 mod exifs;
 mod faults;
 mod fence;
 mod huge;
+mod many;
 mod memory;
 mod orders;
 mod panels;
@@ -29,10 +33,12 @@ mod trials;
 mod upstream;
 mod vectors;
 mod visible;
+mod wide_faults;
+mod widen;
 
 use coverage::Coverage;
 use random::Rng;
-use run::Run;
+use run::{Answers, Rooms, Run};
 use std::io::Write;
 use std::process::ExitCode;
 use std::time::Instant;
@@ -43,7 +49,7 @@ const HELP: &str = "usage: differential [--seed N] [--long] [--huge]
 
   --seed N   draw other random panels (the seed is printed with each run)
   --long     draw 1,000,000 random panels instead of 100,000
-  --huge     also write two files of 4,294,967,295 bytes (takes 12.1 GiB of memory)
+  --huge     also write three files of 4,294,967,295 bytes (takes 8.1 GiB of memory)
   vectors    print a fixed list of upstream's files: name, sheet and file in hexadecimal
   stored     print what the program crate program_files must write, from upstream's files";
 
@@ -76,14 +82,32 @@ fn options() -> Result<Options, String> {
     Ok(options)
 }
 
-/// Runs a set and says what it held.
+/// Runs a set and says what it held: in the ordinary form, and in the wide one.
 fn set(name: &str, run: &mut Run, go: impl FnOnce(&mut Run)) {
-    let (before, failed) = (run.panels.clone(), run.failures);
+    let (before, failed) = ([run.panels.clone(), run.wide.clone()], run.failures);
     go(run);
-    let count = |n: u32| run.panels.get(&n).unwrap_or(&0) - before.get(&n).unwrap_or(&0);
-    let refused: u64 = run.panels.keys().filter(|n| **n != 0).map(|n| count(*n)).sum();
-    println!("{name}: {} accepted, {refused} refused, {} differ", count(0), run.failures - failed);
+    let [ordinary, wide] = [(&run.panels, &before[0]), (&run.wide, &before[1])].map(|(now, before)| {
+        let accepted = accepted(now) - accepted(before);
+        let refused = now.values().sum::<u64>() - before.values().sum::<u64>() - accepted;
+        format!("{accepted} accepted, {refused} refused")
+    });
+    println!("{name}: {ordinary}; wide: {wide}; {} differ", run.failures - failed);
 }
+
+/// How many panels were accepted.
+fn accepted(answers: &Answers) -> u64 {
+    answers.get(&0).copied().unwrap_or(0)
+}
+
+/// How many were accepted, and how many were refused with each number.
+fn counts(answers: &Answers) -> String {
+    let refused: Vec<String> =
+        answers.iter().filter(|(n, _)| **n != 0).map(|(n, count)| format!("{count} with {n}")).collect();
+    format!("{} accepted; refused: {}", accepted(answers), refused.join(", "))
+}
+
+/// One random panel in so many is also asked for in the wide form.
+const WIDE: u64 = 4;
 
 /// Draws panels. Fails if too few were accepted, or if something looked for never occurred among the accepted or among
 /// those refused with 8 or with 22.
@@ -93,7 +117,8 @@ fn random(run: &mut Run, seed: u64, panels: u64) {
     let mut misfits = Coverage::of_misfits();
     for number in 0..panels {
         let case = random::panel(&mut rng);
-        match run.panel(&format!("random panel {number} of seed {seed}"), &case) {
+        let wide = number.is_multiple_of(WIDE).then_some(Rooms::Every);
+        match run.panel_with(wide, &format!("random panel {number} of seed {seed}"), &case) {
             None => {
                 accepted += 1;
                 coverage.count(&case);
@@ -117,6 +142,7 @@ fn random(run: &mut Run, seed: u64, panels: u64) {
         let (rarest, count) = of.rarest();
         println!("random panels: of {} things looked for in {among} the rarest is '{rarest}', in {count}", of.len());
     }
+    println!("random panels: one in {WIDE} is also asked for in the wide form");
     println!("random panels: {} of the {accepted} accepted have a visible size", coverage.of("visible size"));
     let causes: Vec<String> = visible::CAUSES.iter().map(|(name, _)| format!("{name} {}", misfits.of(name))).collect();
     println!("random panels: refused with 22: {}", causes.join(", "));
@@ -125,10 +151,7 @@ fn random(run: &mut Run, seed: u64, panels: u64) {
 /// Compares sheets and says what they were.
 fn sheets(run: &mut Run, seed: u64) {
     let seen = sheets::run(run, seed);
-    let refused: Vec<String> =
-        seen.answers.iter().filter(|(n, _)| **n != 0).map(|(n, count)| format!("{count} with {n}")).collect();
-    let accepted = seen.answers.get(&0).unwrap_or(&0);
-    println!("sheets: {} in all; {accepted} accepted; refused: {}", seen.sheets, refused.join(", "));
+    println!("sheets: {} in all; {}", seen.sheets, counts(&seen.answers));
     match seen.program {
         Some(count) => println!("program_panel: {count} of them through the program"),
         None => println!("program_panel: the program is not built, so it was left out"),
@@ -147,6 +170,7 @@ fn everything(options: &Options) -> Run {
     set("sizes around visible ones", &mut run, visible::run_sizes);
     set("visible sizes beside all else", &mut run, visible::run_beside);
     set("last ids", &mut run, sets::last_ids);
+    set("as many tiles as the wide form takes", &mut run, edges::run);
     set("refusals", &mut run, sets::refusals);
     set("lengths around 4 GiB", &mut run, huge::lengths);
     set("two checks at once", &mut run, orders::panels);
@@ -154,8 +178,12 @@ fn everything(options: &Options) -> Run {
     println!("the order of the checks: {ordered} calls at which two hold");
     let parts = differences::run(&mut run);
     println!("where upstream parts from the specification: {parts} panels");
+    let held = many::run(&mut run, options.seed);
+    println!("wide files written item by item: {held} are upstream's, widened");
     let (codes, unnamed) = codes::run(&mut run);
     println!("codes: {codes} values, of which {unnamed} name nothing and are refused with 13");
+    let unnamed = codes::unnamed_forms(&mut run);
+    println!("codes of forms: {unnamed} calls that are told 1, 2 or 4 to 255, all refused with 13");
     let fenced = fence::run(&mut run, options.seed);
     println!("fenced: {fenced} panels, every part hard by memory that cannot be touched, before it and behind it");
     let lookups = tiles::run(&mut run, options.seed);
@@ -170,9 +198,10 @@ fn everything(options: &Options) -> Run {
 
 /// The counts and the verdict.
 fn report(run: &Run) -> bool {
-    let refused: Vec<String> =
-        run.panels.iter().filter(|(n, _)| **n != 0).map(|(n, count)| format!("{count} with {n}")).collect();
-    println!("panels: {} accepted; refused: {}", run.panels.get(&0).unwrap_or(&0), refused.join(", "));
+    println!("panels: {}", counts(&run.panels));
+    println!("panels in the wide form: {}", counts(&run.wide));
+    println!("panels that the wide form alone takes: {}, of more ids than 16 bits have", run.beyond);
+    println!("panels told the ordinary form: {}, answered and written as by the calls that name none", run.told);
     println!("visible sizes: in {} of the accepted panels", run.visible);
     println!("calls compared: {}, of which {} into too little room, refused with 6", run.calls, run.short_rooms);
     let (unnoticed, made) = selftest::run();

@@ -2,36 +2,61 @@
 //! its causes, the others without a visible size and with one. What they must answer is compared; and the self-test
 //! exchanges each two checks in the prediction, which must be reported here.
 
+use crate::calls::{Calls, WIDE};
 use crate::compare::{judge, Room};
 use crate::memory::Zeros;
 use crate::panels::{p, Case};
 use crate::predict::{self, Answer};
+use crate::random::Rng;
 use crate::raw;
 use crate::run::Run;
 use crate::sheet::sheet;
 use crate::sheets::{self, ROOM};
 use crate::tiles::{self, MOST_TILES};
-use kahopiru::{sys, Cicp, Refusal, Samples, VisibleSize};
+use kahopiru::{sys, Cicp, Panel, Refusal, Samples, VisibleSize};
+use std::fmt;
+
+/// A call that makes checks.
+#[derive(Clone, Copy, Debug, PartialEq)]
+enum What {
+    Write(Calls),
+    Length(Calls),
+    Tile,
+    Sheet,
+}
+
+impl fmt::Display for What {
+    fn fmt(&self, f: &mut fmt::Formatter<'_>) -> fmt::Result {
+        match self {
+            What::Write(calls) => write!(f, "write{calls}"),
+            What::Length(calls) => write!(f, "file_length{calls}"),
+            What::Tile => f.write_str("tile"),
+            What::Sheet => f.write_str("sheet"),
+        }
+    }
+}
 
 /// The checks of each call, in the order in which they are made; that 13 comes before them, codes.rs tries. Where a
 /// sheet is spoiled, the reading meets the depths (13) before the end (11).
-const ORDERS: [(&str, &[u32]); 4] = [
-    ("write", &[1, 22, 8, 2, 3, 4, 5, 6]),
-    ("file_length", &[1, 22, 8, 2, 3, 4, 5]),
-    ("tile", &[2, 3, 4, 7]),
-    ("sheet", &[15, 12, 13, 11, 14, 1, 8, 6]),
+const ORDERS: [(What, &[u32]); 6] = [
+    (What::Write(Calls::Plain), &[1, 22, 8, 2, 3, 4, 5, 6]),
+    (What::Length(Calls::Plain), &[1, 22, 8, 2, 3, 4, 5]),
+    (What::Write(WIDE), &[1, 22, 8, 2, 3, 4, 5, 6]),
+    (What::Length(WIDE), &[1, 22, 8, 2, 3, 4, 5]),
+    (What::Tile, &[2, 3, 4, 7]),
+    (What::Sheet, &[15, 12, 13, 11, 14, 1, 8, 6]),
 ];
 
 /// A sheet that ends too soon has no bytes left over.
 const NEVER_AT_ONCE: Pair = [11, 14];
 
 /// Two checks, in the order in which they are made.
-type Pair = [u32; 2];
+pub type Pair = [u32; 2];
 
 /// A call at which two checks hold.
 #[derive(Debug)]
 struct Call {
-    name: &'static str,
+    what: What,
     pair: Pair,
     /// What holds by the prediction, in its order.
     holding: Vec<u32>,
@@ -41,11 +66,11 @@ struct Call {
 }
 
 /// Each two checks of each call that can hold at once.
-fn pairs() -> Vec<(&'static str, Pair)> {
+fn pairs() -> Vec<(What, Pair)> {
     let mut pairs = Vec::new();
-    for (name, order) in ORDERS {
+    for (what, order) in ORDERS {
         for (i, &first) in order.iter().enumerate() {
-            pairs.extend(order[i + 1..].iter().map(|&second| (name, [first, second])));
+            pairs.extend(order[i + 1..].iter().map(|&second| (what, [first, second])));
         }
     }
     pairs.retain(|&(_, pair)| pair != NEVER_AT_ONCE);
@@ -122,21 +147,45 @@ fn spoiled(pair: Pair, tile: &Tile) -> Case {
     case
 }
 
-/// The writing call or the length call. The Exif that makes a file too long is not read.
-fn panel_call(name: &'static str, pair: Pair, tile: &Tile, zeros: &[u8]) -> Call {
-    let case = spoiled(pair, tile);
+/// A panel for which these checks hold. The Exif that makes a file too long is not read.
+fn spoiled_panel<'a>(pair: Pair, case: &'a Case, zeros: &'a [u8]) -> Panel<'a> {
     let mut panel = case.panel();
     if pair.contains(&5) {
         panel.metadata.exif = Some(zeros);
     }
-    if name == "file_length" {
-        let answer = kahopiru::file_length(&panel).map_err(Refusal::number);
-        return Call { name, pair, holding: predict::holding(&panel, None), answer, kept: true };
-    }
+    panel
+}
+
+fn length_call(calls: Calls, pair: Pair, panel: &Panel<'_>) -> Call {
+    let holding = predict::holding_in(calls.form(), panel, None);
+    Call { what: What::Length(calls), pair, holding, answer: calls.length(panel), kept: true }
+}
+
+fn write_call(calls: Calls, pair: Pair, panel: &Panel<'_>) -> Call {
     let size = if pair.contains(&6) { 0 } else { 700 };
     let mut room = Room::new();
-    let answer = kahopiru::write(&panel, room.lend(size)).map(|n| n as u64).map_err(Refusal::number);
-    Call { name, pair, holding: predict::holding(&panel, Some(size)), answer, kept: kept(answer, &room) }
+    let answer = calls.write(panel, room.lend(size));
+    let holding = predict::holding_in(calls.form(), panel, Some(size));
+    Call { what: What::Write(calls), pair, holding, answer, kept: kept(answer, &room) }
+}
+
+/// What is done with a panel for which two checks hold: the pair, the panel's numbers, and its parts.
+pub type Numbers<'a> = &'a mut dyn FnMut(Pair, sys::Panel, &sys::Lent<'_>);
+
+/// Hands over each panel for which two checks of the writing call hold, as the archive's own interface takes it.
+pub fn each_spoiled(hand_over: Numbers<'_>) {
+    let zeros = Zeros::new(1 << 32);
+    for (_, pair) in pairs().into_iter().filter(|(what, _)| *what == What::Write(Calls::Plain)) {
+        for tile in tiles_for(pair) {
+            let case = spoiled(pair, tile);
+            let mut numbers = raw::numbers(&case, &mut Rng::new(0));
+            let mut lent = raw::lent(&case, &[]);
+            if pair.contains(&5) {
+                (numbers.has_exif, lent.exif) = (1, zeros.slice());
+            }
+            hand_over(pair, numbers, &lent);
+        }
+    }
 }
 
 // ---- tile lookups
@@ -149,7 +198,7 @@ fn lookup_call(pair: Pair) -> Call {
     let alpha = Samples { lengths: &lengths[..count + usize::from(has(2))], bytes: &[] };
     let id = if has(7) { 0 } else { 1 };
     let answer = kahopiru::tile(id, color, alpha).map(|part| part.len() as u64).map_err(Refusal::number);
-    Call { name: "tile", pair, holding: tiles::holding(id, color, alpha), answer, kept: true }
+    Call { what: What::Tile, pair, holding: tiles::holding(id, color, alpha), answer, kept: true }
 }
 
 // ---- sheets
@@ -198,20 +247,25 @@ fn sheet_call(pair: Pair, bytes: &[u8]) -> Call {
     let size = if pair.contains(&6) { 0 } else { ROOM };
     let mut room = Room::new();
     let answer = raw::answer(sys::sheet(bytes, room.lend(size)));
-    Call { name: "sheet", pair, holding: sheets::holding(bytes, size).0, answer, kept: kept(answer, &room) }
+    Call { what: What::Sheet, pair, holding: sheets::holding(bytes, size).0, answer, kept: kept(answer, &room) }
 }
 
 // ---- all of them
 
 fn calls() -> Vec<Call> {
     let zeros = Zeros::new(1 << 32);
-    let of_pair = |(name, pair)| match name {
-        "tile" => vec![lookup_call(pair)],
-        "sheet" => vec![sheet_call(pair, &spoiled_sheet(pair, DEPTH))],
-        _ => tiles_for(pair).into_iter().map(|tile| panel_call(name, pair, tile, zeros.slice())).collect(),
+    let of_panels = |pair, call: &dyn Fn(&Panel<'_>) -> Call| {
+        let of_tile = |tile| call(&spoiled_panel(pair, &spoiled(pair, tile), zeros.slice()));
+        tiles_for(pair).into_iter().map(of_tile).collect()
+    };
+    let of_pair = |(what, pair)| match what {
+        What::Write(calls) => of_panels(pair, &|panel| write_call(calls, pair, panel)),
+        What::Length(calls) => of_panels(pair, &|panel| length_call(calls, pair, panel)),
+        What::Tile => vec![lookup_call(pair)],
+        What::Sheet => vec![sheet_call(pair, &spoiled_sheet(pair, DEPTH))],
     };
     let mut calls: Vec<Call> = pairs().into_iter().flat_map(of_pair).collect();
-    let codes = pairs().into_iter().filter(|(name, pair)| *name == "sheet" && pair.contains(&13));
+    let codes = pairs().into_iter().filter(|(what, pair)| *what == What::Sheet && pair.contains(&13));
     calls.extend(codes.map(|(_, pair)| sheet_call(pair, &spoiled_sheet(pair, ALPHA_DEPTH))));
     calls.push(sheet_call([13, 11], &half_a_colour()));
     calls
@@ -219,8 +273,8 @@ fn calls() -> Vec<Call> {
 
 /// Compares the panels of which no part is too long to be read, by every call that judges a panel.
 pub fn panels(run: &mut Run) {
-    for (name, pair) in pairs() {
-        if name == "file_length" && !pair.contains(&5) {
+    for (what, pair) in pairs() {
+        if what == What::Length(Calls::Plain) && !pair.contains(&5) {
             for tile in tiles_for(pair) {
                 run.panel(&format!("a panel where {} and {} hold", pair[0], pair[1]), &spoiled(pair, tile));
             }
@@ -232,7 +286,7 @@ pub fn panels(run: &mut Run) {
 pub fn run(run: &mut Run) -> usize {
     let calls = calls();
     for call in &calls {
-        let name = format!("{} where {} and {} hold", call.name, call.pair[0], call.pair[1]);
+        let name = format!("{} where {} and {} hold", call.what, call.pair[0], call.pair[1]);
         if !call.holding.starts_with(&call.pair) {
             run.fail(&name, "by the prediction others hold, or in another order", call);
         }
@@ -259,9 +313,9 @@ fn exchanged(holding: &[u32], [a, b]: Pair) -> Option<u32> {
 /// Each two checks of each call, exchanged in the prediction: its name, and whether a call answers something else.
 pub fn exchanges() -> Vec<(String, bool)> {
     let calls = calls();
-    let reported = |(name, pair): (&str, Pair)| {
-        let differs = |call: &Call| call.name == name && exchanged(&call.holding, pair) != call.answer.err();
-        (format!("{name} with {} and {} exchanged", pair[0], pair[1]), calls.iter().any(differs))
+    let reported = |(what, pair): (What, Pair)| {
+        let differs = |call: &Call| call.what == what && exchanged(&call.holding, pair) != call.answer.err();
+        (format!("{what} with {} and {} exchanged", pair[0], pair[1]), calls.iter().any(differs))
     };
     pairs().into_iter().map(reported).collect()
 }

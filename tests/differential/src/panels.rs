@@ -120,6 +120,13 @@ impl Case {
         Case { bit_depth: depth, alpha_bit_depth: depth, ..self }
     }
 
+    /// The same panel with a grid of tiles of different lengths, empty ones among them.
+    pub fn with_mixed_grid(self, cols: u32, rows: u32) -> Case {
+        let color = (0..rows * cols).map(|i| i % 4).collect();
+        let alpha = (0..rows * cols).map(|i| (i + 2) % 3).collect();
+        self.with_grid(cols, rows, color, alpha)
+    }
+
     /// The same panel with a grid of empty tiles.
     pub fn with_empty_grid(self, cols: u32, rows: u32) -> Case {
         let lengths = vec![0; (cols * rows) as usize];

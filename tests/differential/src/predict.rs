@@ -7,32 +7,54 @@ use kahopiru::{EncodedGainMap, Orientation, Panel, Samples, VisibleSize};
 /// A length, or the number of a refusal.
 pub type Answer = Result<u64, u32>;
 
-const MOST_BYTES: i128 = 4_294_967_295;
-const LAST_ID: i128 = 65_535;
+/// A form of the file, and its code.
+#[derive(Clone, Copy, Debug, PartialEq)]
+pub enum Form {
+    Ordinary = 0,
+    Wide = 3,
+}
 
-/// What the writing call answers with so much room; the length call, with no room named.
+const MOST_BYTES: i128 = 4_294_967_295;
+/// The highest id that 16 bits hold, and the most tiles that a reference of that many can lead to.
+const MOST_16: i128 = 65_535;
+
+/// What the writing call answers with so much room; the length call, with no room named. The form is the ordinary one.
 pub fn answer(panel: &Panel<'_>, room: Option<usize>) -> Answer {
-    match holding(panel, room).first() {
+    answer_in(Form::Ordinary, panel, room)
+}
+
+/// The same in a form.
+pub fn answer_in(form: Form, panel: &Panel<'_>, room: Option<usize>) -> Answer {
+    match holding_in(form, panel, room).first() {
         Some(&number) => Err(number),
-        None => Ok(length(panel) as u64),
+        None => Ok(length_in(form, panel) as u64),
     }
 }
 
-/// The checks that hold for a panel, in the order in which they are made: the first is answered.
+/// The checks that hold for a panel in the ordinary form, in the order in which they are made: the first is answered.
 pub fn holding(panel: &Panel<'_>, room: Option<usize>) -> Vec<u32> {
+    holding_in(Form::Ordinary, panel, room)
+}
+
+/// The same in a form.
+pub fn holding_in(form: Form, panel: &Panel<'_>, room: Option<usize>) -> Vec<u32> {
     let (rows, cols) = (i128::from(panel.dims.rows), i128::from(panel.dims.cols));
     let good_side = |side: i128| (1..=256).contains(&side);
     let dims = panel.dims;
     let shown = panel.visible.unwrap_or(VisibleSize { w: dims.tile_w, h: dims.tile_h });
     let counts = |s: Samples<'_>| s.lengths.len() as i128 == tiles(panel);
-    let length = length(panel);
+    let length = length_in(form, panel);
+    let too_many = match form {
+        Form::Ordinary => last_id(panel) > MOST_16,
+        Form::Wide => tiles(panel) > MOST_16,
+    };
     let checks = [
         (1, !good_side(rows) || !good_side(cols)),
         (22, panel.visible.is_some_and(|v| !shows(v.w, dims.tile_w) || !shows(v.h, dims.tile_h))),
         (8, !covered(dims.cols, shown.w, dims.full_w) || !covered(dims.rows, shown.h, dims.full_h)),
         (2, !counts(panel.color_samples) || !counts(panel.alpha_samples)),
         (3, !sums(panel.color_samples) || !sums(panel.alpha_samples)),
-        (4, last_id(panel) > LAST_ID),
+        (4, too_many),
         (5, length > MOST_BYTES),
         (6, room.is_some_and(|room| (room as i128) < length)),
     ];
@@ -66,8 +88,9 @@ pub fn one_if(present: bool) -> i128 {
     i128::from(present)
 }
 
-/// The last item id: both tile lists and both grids, then Exif, gain image, XMP, tone map.
-fn last_id(panel: &Panel<'_>) -> i128 {
+/// The last item id, which is how many items there are: both tile lists and both grids, then Exif, gain image, XMP and
+/// tone map.
+pub fn last_id(panel: &Panel<'_>) -> i128 {
     let tone = panel.gain_map.is_some_and(|g| g.tmap.is_some());
     2 * tiles(panel) + 2 + one_if(panel.metadata.exif.is_some()) + 2 * one_if(panel.gain_map.is_some()) + one_if(tone)
 }
@@ -87,7 +110,34 @@ fn transforms(orientation: Orientation) -> i128 {
     [0, 1, 1, 1, 2, 1, 2, 1][orientation as usize]
 }
 
-/// The file's length: the bare file's, and the share of each thing that is more.
+/// The file's length in a form.
+pub fn length_in(form: Form, panel: &Panel<'_>) -> i128 {
+    match form {
+        Form::Ordinary => length(panel),
+        Form::Wide => length(panel) + 2 * (ids(panel) + COUNTS),
+    }
+}
+
+/// The counts that the wide form widens: that of iloc and that of iinf.
+const COUNTS: i128 = 2;
+
+/// How often a file has an id in pitm, iloc, iinf, iref and ipma.
+fn ids(panel: &Panel<'_>) -> i128 {
+    let n = tiles(panel);
+    let exif = one_if(panel.metadata.exif.is_some());
+    let gain = one_if(panel.gain_map.is_some());
+    let tone = one_if(panel.gain_map.is_some_and(|g| g.tmap.is_some()));
+    let in_pitm = 1;
+    let in_iloc_and_iinf = 2 * last_id(panel);
+    // Each grid with its tiles; alpha grid, Exif and gain image with the colour grid; XMP with the gain image; and the
+    // tone map with colour grid and gain image.
+    let in_iref = 2 * (1 + n) + 2 + 2 * exif + 2 * gain + 2 * gain + 3 * tone;
+    // Tiles, grids, gain image and tone map name properties.
+    let in_ipma = 2 * n + 2 + gain + tone;
+    in_pitm + in_iloc_and_iinf + in_iref + in_ipma
+}
+
+/// The ordinary file's length: the bare file's, and the share of each thing that is more.
 pub fn length(panel: &Panel<'_>) -> i128 {
     let bare = 461
         + 89 * tiles(panel)

@@ -8,7 +8,8 @@
 
 use crate::panels::Case;
 use crate::predict::{length, one_if, rext, tiles};
-use crate::{clap, upstream};
+use crate::widen::widen;
+use crate::{clap, many, upstream};
 use kahopiru::Panel;
 
 /// The file of a panel that is accepted, or what upstream says instead.
@@ -27,6 +28,15 @@ pub fn file(case: &Case) -> Result<Vec<u8>, String> {
         clap::put(&mut file, &panel, clap::place(&panel), &clap::of(&panel)?)?;
     }
     Ok(file)
+}
+
+/// The wide file of a panel that is accepted in that form, given its ordinary file: that file widened, or, where there
+/// is none, one that is written item by item.
+pub fn wide_file(case: &Case, ordinary: Option<&[u8]>) -> Result<Vec<u8>, String> {
+    match ordinary {
+        Some(file) => widen(file),
+        None => many::file(case),
+    }
 }
 
 /// What Exif may begin with, before its TIFF header: "Exif" and two zero bytes.

@@ -1,10 +1,10 @@
 //! The comparison itself, put to the test: each kind of difference, made on purpose, must be reported; and so must a
-//! prediction that makes two checks in the other order, or that is wrong of visible sizes.
+//! prediction that makes two checks in the other order, or that is wrong of visible sizes or of the wide form.
 
 use crate::compare::{judge, same_answer, same_file, Room};
 use crate::panels::{full, Case};
 use crate::reference::MARKER;
-use crate::{faults, orders, reference, upstream, visible};
+use crate::{edges, faults, orders, reference, upstream, visible, wide_faults};
 use kahopiru::BitDepth;
 
 /// A difference that is made on purpose, and whether the comparison reported it.
@@ -80,15 +80,18 @@ pub fn run() -> (Vec<String>, usize) {
         ("a wrong length alone", same_answer(Ok(556), Ok(557))),
         ("a shorter file", same_file(&file, &file[1..])),
     ];
-    let trials = trials.into_iter().chain(alpha_depths()).chain(tiff_offsets()).chain(faults::trials());
+    let trials =
+        [trials, alpha_depths(), tiff_offsets(), faults::trials(), wide_faults::trials()].into_iter().flatten();
     let mut seen: Vec<(String, bool)> = trials.map(|(name, seen)| (name.into(), seen.is_err())).collect();
     seen.extend(orders::exchanges());
     seen.extend(visible::predictions());
+    seen.extend(edges::predictions());
     let made = seen.len();
     let mut unnoticed: Vec<_> = seen.into_iter().filter(|(_, reported)| !reported).map(|(name, _)| name).collect();
     // And what is right must pass, or the comparison reports everything.
-    let right = [judge(good, &file, good, &untouched), judge(Err(6), &file, Err(6), &unwritten), faults::right()];
-    if right.iter().any(Result::is_err) {
+    let right = [judge(good, &file, good, &untouched), judge(Err(6), &file, Err(6), &unwritten)];
+    let right = right.into_iter().chain([faults::right(), wide_faults::right()]).collect::<Result<(), _>>();
+    if right.is_err() {
         unnoticed.push("nothing (a right answer is reported)".into());
     }
     (unnoticed, made)

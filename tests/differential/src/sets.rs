@@ -3,13 +3,14 @@
 use crate::exifs::{near_misses, Start};
 use crate::panels::{full, p, small_gain, Case, Color, Gain, LIGHT};
 use crate::reference::MARKER;
-use crate::run::Run;
+use crate::run::{Rooms, Run};
 use kahopiru::{BitDepth, Cicp, Orientation, VisibleSize};
 
 /// Panels and their names.
-type Named = Vec<(String, Case)>;
+pub type Named = Vec<(String, Case)>;
 
-fn run_all(run: &mut Run, panels: Named) {
+/// Compares all of them.
+pub fn run_all(run: &mut Run, panels: Named) {
     for (name, case) in panels {
         run.panel(&name, &case);
     }
@@ -42,9 +43,7 @@ fn every_grid() -> Named {
     for rows in 1..=8 {
         for cols in 1..=8 {
             for base in [p(), full()] {
-                let color = (0..rows * cols).map(|i| i % 4).collect();
-                let alpha = (0..rows * cols).map(|i| (i + 2) % 3).collect();
-                all.push((format!("{rows} rows, {cols} columns"), base.with_grid(cols, rows, color, alpha)));
+                all.push((format!("{rows} rows, {cols} columns"), base.with_mixed_grid(cols, rows)));
             }
         }
     }
@@ -170,15 +169,23 @@ fn on_each_axis(run: &mut Run, tiles: u32, tile: u32, full_size: u32) {
 
 /// Grids around the last item id, with and without what takes more ids.
 pub fn last_ids(run: &mut Run) {
-    let exif = || Some(Vec::new());
+    for (name, case) in around_the_last_id() {
+        run.panel_with(Some(Rooms::Two), &name, &case);
+    }
+}
+
+/// Their panels.
+pub fn around_the_last_id() -> Named {
+    let mut all = Vec::new();
     for (cols, rows) in [(254, 129), (129, 254), (217, 151), (255, 129), (255, 128), (256, 127), (256, 256)] {
         for gain in [None, Some(small_gain(None)), Some(small_gain(Some(Vec::new())))] {
-            for exif in [None, exif()] {
+            for exif in [None, Some(Vec::new())] {
                 let case = Case { gain: gain.clone(), exif, ..p() }.with_empty_grid(cols, rows);
-                run.panel(&format!("{cols} by {rows} tiles"), &case);
+                all.push((format!("{cols} by {rows} tiles"), case));
             }
         }
     }
+    all
 }
 
 /// Panels that break a rule, and panels that break several, of which the first is answered.
@@ -211,7 +218,7 @@ pub fn refusals(run: &mut Run) {
 }
 
 /// Ways to break rules 2 and 3 by one.
-const SPOILED: [fn(&mut Case); 14] = [
+pub const SPOILED: [fn(&mut Case); 14] = [
     |c| c.color_lengths.push(0),
     |c| c.alpha_lengths.push(0),
     |c| c.color_lengths.truncate(c.color_lengths.len() - 1),

@@ -5,11 +5,10 @@ use crate::compare::{judge, Room};
 use crate::panels::{full, p, Case};
 use crate::predict::{self, Answer};
 use crate::random::{self, Rng};
-use crate::run::Run;
+use crate::run::{Answers, Run};
 use crate::sheet::{every_field, sheet};
 use crate::{raw, reader, reference};
 use kahopiru::{sys, GridDims};
-use std::collections::BTreeMap;
 use std::io::Write;
 use std::path::PathBuf;
 use std::process::{Command, Stdio};
@@ -26,7 +25,7 @@ pub const ROOM: usize = 32_768;
 pub struct Seen {
     pub sheets: u64,
     /// By answer: 0 for accepted, else the number of the refusal.
-    pub answers: BTreeMap<u32, u64>,
+    pub answers: Answers,
     /// How many of them went through the program, if it was there.
     pub program: Option<usize>,
 }
@@ -139,7 +138,7 @@ fn through_program(run: &mut Run, program: &PathBuf, sheets: &[Vec<u8>]) -> usiz
 
 pub fn run(run: &mut Run, seed: u64) -> Seen {
     let all = sheets(seed);
-    let mut seen = Seen { sheets: 0, answers: BTreeMap::new(), program: None };
+    let mut seen = Seen { sheets: 0, answers: Answers::new(), program: None };
     let mut room = Room::new();
     for sheet in &all {
         for size in [ROOM, 0, 600] {

@@ -1,7 +1,8 @@
 //! What the program crate program_files must write, from upstream's writer: panel P with each value of each enum, by
-//! upstream's own names and not the binding's, its alpha at each depth; a panel with every part; and the tiles of both.
+//! upstream's own names and not the binding's, its alpha at each depth; a panel with every part, in the ordinary form
+//! and in the wide one; and the tiles of both.
 
-use crate::{panels, reference, tiles};
+use crate::{panels, reference, tiles, widen};
 use kahopiru::Samples;
 use oracle::color::{Cicp, ColorMetadata, MatrixCoefficients, Primaries, TransferFunction};
 use oracle::fmt::BitDepth;
@@ -11,7 +12,7 @@ use oracle::{GainMap, Panel};
 /// What the program's outputs hold before a file is written into them, and how long they are.
 const MARK: u8 = 0xEE;
 const OUTPUT: usize = 600;
-const FULL_OUTPUT: usize = 1_186;
+const FULL_OUTPUT: usize = 1_282;
 
 /// Every value of an enum. It does not compile if upstream has a value that is not named, or lacks one.
 macro_rules! every {
@@ -202,6 +203,7 @@ pub fn bytes() -> Result<Vec<u8>, String> {
     }
     let file = oracle::write(&full())?;
     all.extend(output(&file, FULL_OUTPUT)?);
+    all.extend(output(&widen::widen(&file)?, FULL_OUTPUT)?);
     all.extend(found(&oracle::write(&p_with(p()))?, 1)?);
     all.extend(found(&file, 2)?);
     let lengths = [0; tiles::MOST_TILES + 1];

@@ -124,5 +124,5 @@ pub fn run(run: &mut Run, seed: u64) -> u64 {
         }
     }
     let ends = [0, 1, 32_765, 32_766, 32_767, 32_768, 32_769, 65_532, 65_533, 65_534, 65_535];
-    lookups + [0, MOST_TILES, MOST_TILES + 1, 65_536].into_iter().map(|n| many(run, n, &ends)).sum::<u64>()
+    lookups + [0, MOST_TILES, MOST_TILES + 1, 65_280, 65_536].into_iter().map(|n| many(run, n, &ends)).sum::<u64>()
 }
