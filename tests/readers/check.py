@@ -9,28 +9,27 @@ import subprocess
 import sys
 import tempfile
 
-import panels  # before all else: it says where the example's modules are
+import panels  # before all else: it says where the modules of examples/ and tools/ are
+import canvases
 import compare
 import expected
+import forms
 import library
 import programs
-import wide
+from heif import boxes, check, fold, items, views
 from parts import cards, hevc, sheet
-
-sys.path.insert(0, str(panels.ROOT / "tools"))
-
-from heif import boxes, check, fold, items, views  # noqa: E402
 
 MADE_WITH = ("3.5", "4.1", "4.2")  # the versions of x265 that are known to make the sheets in examples/
 
 
-def write(writer, every, room):
-    """Writes the file of each panel; each file with what it is meant to show."""
+def write(writer, every, room, wide=False):
+    """Writes the file of each panel, in the wide form or the ordinary one; each file with what it is meant to show."""
     command = [writer]
     for each in every:
         data = sheet.sheet(dataclasses.replace(each.panel, full=covered(each.panel)))
         (room / f"{each.name}.sheet").write_bytes(data)
-        # A sheet can't say what is seen of a tile.
+        # A sheet can't say its file's form, nor what is seen of a tile.
+        command += ["--wide"] if wide else []
         command += ["--visible", "{}x{}".format(*each.visible)] if each.visible else []
         command += [room / f"{each.name}.sheet", room / f"{each.name}.heic"]
     subprocess.run(command, check=True)
@@ -123,25 +122,29 @@ def _ispe(size):
     return b"ispe" + bytes(4) + b"".join(side.to_bytes(4, "big") for side in size)
 
 
-def check_readers(tally, files):
-    """Each reader on each file; the versions of the readers."""
-    convert, magick, info, exiftool = programs.HeifConvert(), programs.Magick(), programs.HeifInfo(), programs.Exiftool()
-    decoders = [convert, library.Library()]
-    if decoders[0].libheif != decoders[1].libheif:
-        tally.fail("libheif", decoders[1].libheif, f"heif-convert is of another version, {decoders[0].libheif}")
+def installed(tally):
+    """The readers that decode; there are heif-info and exiftool besides."""
+    convert, itself, magick = programs.HeifConvert(), library.Library(), programs.Magick()
+    if convert.libheif != itself.libheif:
+        tally.fail("libheif", itself.libheif, f"heif-convert is of another version, {convert.libheif}")
     if magick.libheif is None:
         tally.reports.append("ImageMagick: it is built without HEIF, and is left out")
-    else:
-        decoders.append(magick)
-    for path, meant in files.items():
+        return [convert, itself]
+    return [convert, itself, magick]
+
+
+def check_readers(tally, decoders, files, wide):
+    """Each reader on each file, and on the wide file of the same panel; the versions of the readers."""
+    info, exiftool = programs.HeifInfo(), programs.Exiftool()
+    for (path, meant), other in zip(files.items(), wide):
         for reader in decoders:
-            with tempfile.TemporaryDirectory() as room:
-                compare.decoded(tally, reader, path, meant, pathlib.Path(room))
-        compare.described(tally, info, path, meant)
-    names = [str(path) for path in files]
+            forms.compared(tally, reader, compare.decoded, path, other, meant)
+        forms.compared(tally, info, compare.described, path, other, meant)
+    names = [str(path) for path in [*files, *wide]]
     tags, depths = exiftool.read(names), exiftool.depths(names)
-    for path, meant in files.items():
+    for (path, meant), other in zip(files.items(), wide):
         compare.tagged(tally, tags.get(str(path), {"Error": "no answer"}), depths.get(str(path), []), meant)
+        forms.tagged(tally, other, *((tags.get(str(each)), depths.get(str(each))) for each in (other, path)))
     versions = {reader.name: reader.version() for reader in decoders}
     return {**versions, info.name: f"libheif {info.libheif}", "exiftool": exiftool.version()}
 
@@ -190,8 +193,7 @@ def check_comparison(tally, writer, cache, room):
         (path,) = write(writer, [meant], room)
         for reader in readers:
             found = compare.Tally()
-            with tempfile.TemporaryDirectory() as inner:
-                compare.decoded(found, reader, path, meant, pathlib.Path(inner))
+            compare.decoded(found, reader, path, meant)
             if len(found.failures) != 1:
                 tally.fail(reader.name, meant.name, "the exchange of two tiles is not seen")
 
@@ -215,8 +217,7 @@ def check_cuts(tally, writer, files, room):
         path.write_bytes(faulty)
         for reader in (programs.HeifConvert(), library.Library()):
             found = compare.Tally()
-            with tempfile.TemporaryDirectory() as inner:
-                compare.decoded(found, reader, path, meant, pathlib.Path(inner))
+            compare.decoded(found, reader, path, meant)
             said = found.failures + found.reports
             if len(said) != 1 or wanted not in said[0]:
                 tally.fail(reader.name, meant.name, f"tiles that are {what} give: {'; '.join(said) or 'no failure'}")
@@ -239,14 +240,20 @@ def main(writer, cache):
         room = pathlib.Path(name)
         every = [panels.meant(case, cache) for case in panels.cases()] + panels.meant_cards()
         files = write(writer, every, room)
-        versions = check_readers(tally, files)
-        check_payloads(tally, files)
-        check_views(tally, files)
-        check_findings(tally, files)
+        wide = write(writer, [dataclasses.replace(each, name=f"{each.name}-wide") for each in every], room, wide=True)
+        decoders = installed(tally)
+        versions = check_readers(tally, decoders, files, wide)
+        forms.check_versions(tally, files, wide)
+        for written in (files, wide):
+            check_payloads(tally, written)
+            check_views(tally, written)
+            check_findings(tally, written)
         check_offset(tally, files, room)
         check_comparison(tally, writer, cache, room)
         check_cuts(tally, writer, files, room)
-        wide.check(tally, writer, cache, room)
+        forms.check_comparison(tally, decoders, files, wide, room)
+        forms.check_many(tally, writer, cache, room)
+        canvases.check(tally, writer, cache, room)
     check_examples(tally)
     check_expected(tally)
     for reader, counts in tally.counts.items():
@@ -259,7 +266,7 @@ def main(writer, cache):
         print(f"readers: {failure}", file=sys.stderr)
     if tally.failures:
         sys.exit(f"readers: {len(tally.failures)} of the checks fail")
-    print(f"readers: {len(files)} files are read as docs/DIFFERENCES.md has it by {', '.join(versions)}")
+    print(f"readers: {len(files)} files are read as docs/DIFFERENCES.md has it, and in either form, by {', '.join(versions)}")
 
 
 if __name__ == "__main__":

@@ -1,5 +1,8 @@
 """What a reader gave, held to what was meant."""
 
+import pathlib
+import tempfile
+
 import expected
 import panels
 import pixels
@@ -20,9 +23,17 @@ class Tally:
     def fail(self, reader, name, message):
         self.failures.append(f"{reader}: {name}: {message}")
 
-    def count(self, reader, what):
+    def count(self, reader, what, times=1):
         of_reader = self.counts.setdefault(reader, {})
-        of_reader[what] = of_reader.get(what, 0) + 1
+        of_reader[what] = of_reader.get(what, 0) + times
+
+    def add(self, other):
+        """All that another has found."""
+        self.failures += other.failures
+        self.reports += other.reports
+        for reader, counts in other.counts.items():
+            for what, times in counts.items():
+                self.count(reader, what, times)
 
     def hold(self, reader, name, what, holds, message="is not what was written"):
         """Counts what holds, and notes what does not."""
@@ -42,17 +53,18 @@ class Tally:
             self.reports.append(f"{reader.name}: {name}: {judged[1]}")
 
 
-def decoded(tally, reader, file, meant, room):
-    """Holds a decoding reader to the pictures."""
+def decoded(tally, reader, file, meant):
+    """Holds a decoding reader to the pictures. What it showed, or None where it refuses the file."""
     two_depths = meant.difference is not None and meant.difference.startswith("S11")
     try:
-        seen = reader.read(file, room)
+        with tempfile.TemporaryDirectory() as room:
+            seen = reader.read(file, pathlib.Path(room))
     except programs.Refused as refusal:
         if meant.difference in ("S2", "D12") or two_depths and reader.makes_one_depth:
             tally.note(reader, meant.name, meant.difference, expected.REFUSED)
         else:
             tally.fail(reader.name, meant.name, f"refused: {refusal}")
-        return
+        return None
     tally.count(reader.name, "files read")
     if meant.difference in ("S2", "D12"):
         tally.note(reader, meant.name, meant.difference, expected.SHOWN)
@@ -64,6 +76,7 @@ def decoded(tally, reader, file, meant, room):
         _of_two_depths(tally, reader, meant, seen)
     else:
         _pictures(tally, reader, meant, seen)
+    return seen
 
 
 def _mirrored(tally, reader, meant, seen):
@@ -169,15 +182,15 @@ def _parts(tally, reader, meant, seen):
 
 
 def described(tally, info, file, meant):
-    """Holds what heif-info says to the panel."""
+    """Holds what heif-info says to the panel. What it says, or None where it refuses the file."""
     try:
-        said = info.read(file)
+        said = info.read(file, None)
     except programs.Refused as refusal:
         if meant.difference in ("S2", "D12"):
             tally.note(info, meant.name, meant.difference, expected.REFUSED)
         else:
             tally.fail(info.name, meant.name, f"refused: {refusal}")
-        return
+        return None
     tally.count(info.name, "files read")
     size = "x".join(map(str, meant.size()))
     tally.hold(info.name, meant.name, "size right", f"image: {size} " in said, f"{size} is not named: {said}")
@@ -186,6 +199,7 @@ def described(tally, info, file, meant):
     if meant.panel.light and "light level" in said:
         holds = all(f"light level: {number}" in said for number in meant.panel.light)
         tally.hold(info.name, meant.name, "light level right", holds)
+    return said
 
 
 def tagged(tally, tags, depths, meant):

@@ -61,25 +61,35 @@ class Library:
 
     def read(self, file, _room):
         """Decodes the primary picture."""
+        planes = self.planes(file)
+        return programs.Seen(_picture(planes, COLOUR), _picture(planes, (ALPHA,)) if ALPHA in planes else None)
+
+    def forgets_limits(self):
+        """Whether this version can be told to read files of any size."""
+        return hasattr(self.functions, "heif_get_disabled_security_limits")
+
+    def planes(self, file, without_limits=False):
+        """Decodes the primary picture. Of each plane that it has, by its channel, the depth, and the rows as bytes."""
         context, handle, image = self.functions.heif_context_alloc(), ctypes.c_void_p(), ctypes.c_void_p()
         try:
+            if without_limits:
+                _refuse_on(self._forget_limits(context))
             _refuse_on(self.functions.heif_context_read_from_file(context, str(file).encode(), None))
             _refuse_on(self.functions.heif_context_get_primary_image_handle(context, ctypes.byref(handle)))
             _refuse_on(self.functions.heif_decode_image(handle, ctypes.byref(image), RGB, PLANES_444, None))
-            colour, alpha = self._picture(image, COLOUR), self._picture(image, (ALPHA,))
-            if colour is None:
-                raise programs.Refused("it gives no planes of colour")
-            return programs.Seen(colour, alpha)
+            planes = {channel: self._plane(image, channel) for channel in (*COLOUR, ALPHA)}
         finally:
             self.functions.heif_image_release(image)
             self.functions.heif_image_handle_release(handle)
             self.functions.heif_context_free(context)
+        if any(planes[channel] is None for channel in COLOUR):
+            raise programs.Refused("it gives no planes of colour")
+        return {channel: plane for channel, plane in planes.items() if plane is not None}
 
-    def _picture(self, image, channels):
-        """A picture of these planes, or None where one is not there."""
-        planes = [self._plane(image, channel) for channel in channels]
-        depth = self.functions.heif_image_get_bits_per_pixel_range(image, channels[0])
-        return None if None in planes else programs.made(planes, depth)
+    def _forget_limits(self, context):
+        none, forget = self.functions.heif_get_disabled_security_limits, self.functions.heif_context_set_security_limits
+        none.restype, forget.restype, forget.argtypes = ctypes.c_void_p, _Error, [ctypes.c_void_p] * 2
+        return forget(context, none())
 
     def _plane(self, image, channel):
         stride = ctypes.c_int()
@@ -89,5 +99,16 @@ class Library:
         width = self.functions.heif_image_get_width(image, channel)
         height = self.functions.heif_image_get_height(image, channel)
         depth = self.functions.heif_image_get_bits_per_pixel_range(image, channel)
-        row = (ctypes.c_uint8 if depth <= 8 else ctypes.c_uint16) * width
-        return [list(row.from_address(data + y * stride.value)) for y in range(height)]
+        of_row = width * ctypes.sizeof(_value_of(depth))
+        return depth, [ctypes.string_at(data + y * stride.value, of_row) for y in range(height)]
+
+
+def _value_of(depth):
+    return ctypes.c_uint8 if depth <= 8 else ctypes.c_uint16
+
+
+def _picture(planes, channels):
+    """A picture of these planes."""
+    depth, (row, *_) = planes[channels[0]]
+    values = _value_of(depth) * (len(row) // ctypes.sizeof(_value_of(depth)))
+    return programs.made([[list(values.from_buffer_copy(row)) for row in planes[channel][1]] for channel in channels], depth)

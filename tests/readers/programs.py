@@ -150,7 +150,7 @@ class HeifInfo:
         self.command = shutil.which("heif-info")
         self.libheif = libheif_version()
 
-    def read(self, file):
+    def read(self, file, _room):
         done, said = _run([self.command, file])
         if done.returncode != 0:
             raise Refused(said.strip())

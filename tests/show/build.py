@@ -7,6 +7,7 @@ ALPHA = b"urn:mpeg:hevc:2015:auxid:1\0"
 XMP_TYPE = "application/rdf+xml"
 PACKET = b'<x:xmpmeta xmlns:x="adobe:ns:meta/"><rdf:RDF xmlns:HDRGainMap="http://ns.apple.com/HDRGainMap/1.0/"/></x:xmpmeta>'
 SLICE, VPS, SPS, PPS = 20, 32, 33, 34  # NAL unit types
+NAMING = ("pitm", "iloc", "iinf", "infe", "iref", "ipma")  # boxes with item ids or a count of items, of 16 bits or of 32 by their version
 
 
 def be(value, width):
@@ -129,7 +130,7 @@ class File:
     items: dict
     properties: list
     primary: int
-    wide: bool = False  # with ids of 32 bits
+    wide: tuple = ()  # types of boxes with ids, or a count of items, of 32 bits, which are of the next version
     handler: str = "pict"
     counted: int | None = None  # if not the count of its items
     left_out: tuple = ()  # types of boxes of meta
@@ -146,13 +147,18 @@ class File:
     def _ftyp(self):
         return box("ftyp", b"heic", bytes(4), b"heic", b"mif1", b"miaf")
 
-    def _id(self, number):
-        return be(number, 4 if self.wide else 2)
+    def _id(self, kind, number):
+        """An item's id in a box of a type."""
+        return be(number, 4 if kind in self.wide else 2)
+
+    def _full(self, kind, version, flags, *parts):
+        """A box of a type with ids of 16 bits in this version."""
+        return full(kind, version + (kind in self.wide), flags, *parts)
 
     def _meta(self, start):
         made = {
             "hdlr": full("hdlr", 0, 0, bytes(4), self.handler.encode(), bytes(13)),
-            "pitm": full("pitm", self.wide, 0, self._id(self.primary)),
+            "pitm": self._full("pitm", 0, 0, self._id("pitm", self.primary)),
             "iloc": self._iloc(start),
             "iinf": self._iinf(),
             "iref": self._iref(),
@@ -168,38 +174,38 @@ class File:
             length = len(item.payload) if item.length is None else item.length
             start += 0 if item.in_idat else self.gap
             at = in_idat if item.in_idat else start
-            entries.append(self._id(number) + be(method, 2) + be(item.file, 2) + be(1, 2) + be(at, 4) + be(length, 4))
+            entries.append(self._id("iloc", number) + be(method, 2) + be(item.file, 2) + be(1, 2) + be(at, 4) + be(length, 4))
             in_idat += len(item.payload) if item.in_idat else 0
             start += 0 if item.in_idat else len(item.payload)
-        return full("iloc", 2 if self.wide else 1, 0, b"\x44\0", self._id(len(entries)), *entries)
+        return self._full("iloc", 1, 0, b"\x44\0", self._id("iloc", len(entries)), *entries)
 
     def _iinf(self):
         entries = [
-            full("infe", 3 if self.wide else 2, item.hidden, self._id(number), bytes(2), item.kind.encode(), b"\0",
-                 item.content_type.encode() + b"\0" if item.kind == "mime" else b"")
+            self._full("infe", 2, item.hidden, self._id("infe", number), bytes(2), item.kind.encode(), b"\0",
+                       item.content_type.encode() + b"\0" if item.kind == "mime" else b"")
             for number, item in self.items.items()
         ]  # fmt: skip
         counted = len(entries) if self.counted is None else self.counted
-        return full("iinf", self.wide, 0, self._id(counted), *entries)
+        return self._full("iinf", 0, 0, self._id("iinf", counted), *entries)
 
     def _iref(self):
         made = [
-            box(kind, self._id(number), be(len(targets), 2), *(self._id(target) for target in targets))
+            box(kind, self._id("iref", number), be(len(targets), 2), *(self._id("iref", target) for target in targets))
             for number, item in self.items.items()
             for kind, targets in item.references
         ]
-        return full("iref", self.wide, 0, *made, self.more)
+        return self._full("iref", 0, 0, *made, self.more)
 
     def _ipma(self):
         entries = [
-            self._id(number) + be(len(item.properties), 1) + b"".join(be(128 - p if p < 0 else p, 1) for p in item.properties)
+            self._id("ipma", number) + be(len(item.properties), 1) + b"".join(be(128 - p if p < 0 else p, 1) for p in item.properties)
             for number, item in self.items.items()
             if item.properties
         ]
-        return full("ipma", self.wide, 0, be(len(entries), 4), *entries)
+        return self._full("ipma", 0, 0, be(len(entries), 4), *entries)
 
 
-def good(rows=1, columns=2, wide=False):
+def good(rows=1, columns=2, wide=()):
     """A file that readers show: colour and alpha in tiles of 64 × 64, Exif, and an XMP packet. With n tiles the colour's are
     items 1 to n, their grid n + 1, the alpha's n + 2 to 2n + 1, their grid 2n + 2, Exif 2n + 3 and the packet 2n + 4."""
     n = rows * columns
@@ -218,6 +224,22 @@ def good(rows=1, columns=2, wide=False):
     items[2 * n + 3] = Item("Exif", exif(), references=[("cdsc", [n + 1])])
     items[2 * n + 4] = Item("mime", PACKET, references=[("cdsc", [n + 1])], hidden=True, content_type=XMP_TYPE)
     return File(items, properties, primary=n + 1, wide=wide)
+
+
+def panel_p(wide=()):
+    """The file of panel P."""
+    properties = [
+        box("hvcC", b"\1\1"), ispe(64, 64), ispe(64, 64), box("colr", b"nclx", be(2, 2), be(2, 2), be(2, 2), b"\x80"), pixi(8, 8, 8),
+        box("hvcC", b"\1\4"), pixi(8), full("auxC", 0, 0, ALPHA),
+    ]  # fmt: skip
+    descriptor = grid(1, 1, 64, 64)
+    items = {
+        1: Item("hvc1", b"\xaa", [-1, -2, -4], hidden=True),
+        2: Item("grid", descriptor, [3, -4, 5], [("dimg", [1])], in_idat=True),
+        3: Item("hvc1", b"\xbb", [-6, -2], hidden=True),
+        4: Item("grid", descriptor, [3, 7, 8], [("dimg", [3]), ("auxl", [2])], in_idat=True),
+    }
+    return File(items, properties, primary=2, wide=wide).bytes()
 
 
 def from_sheet(sheet):

@@ -2,7 +2,7 @@
 
 import xml.etree.ElementTree
 
-from build import full, good
+from build import NAMING, full, good, panel_p
 from common import boxes, fail, read, shown, vectors
 
 CUT_AT_300 = """300 bytes
@@ -147,5 +147,6 @@ def check_all():
     check_errors(files["p"])
     check_many()
     check_everywhere("p", files["p"], drawn=3)
+    check_everywhere("p with ids of 32 bits", panel_p(NAMING), drawn=3)
     check_everywhere("full", files["full"], drawn=8)
     return "cut files are shown as far as they go, and damage has an answer"

@@ -3,7 +3,7 @@
 import re
 import xml.etree.ElementTree
 
-from build import SLICE, Item, box, full, good, record, unit
+from build import NAMING, SLICE, Item, box, full, good, record, unit
 from common import fail, read
 
 PAGE = 70  # lines
@@ -137,8 +137,8 @@ def check_shared():
 
 
 def check_all():
-    check_large(100, wide=False)
-    check_large(20, wide=True)
+    check_large(100, wide=())
+    check_large(185, wide=NAMING)  # with more tiles than ids of 16 bits are enough for
     check_threshold()
     check_apart()
     check_steps()

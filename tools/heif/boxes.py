@@ -2,7 +2,7 @@
 
 import dataclasses
 
-from .fold import plural, words
+from .fold import named, plural, words
 
 
 class NotHeif(Exception):
@@ -29,6 +29,16 @@ class Box:
     def is_cut(self):
         return self.there < self.size
 
+    @property
+    def is_known(self):
+        """Whether its version is one that readers know."""
+        return self.version in FULL.get(self.kind, [0])
+
+    @property
+    def id_width(self):
+        """How many bytes an item's id takes in it; of iinf, the count of items."""
+        return IDS[self.kind][self.version]
+
     def __str__(self):
         return f"box {self.kind} at {self.start}"
 
@@ -48,8 +58,16 @@ class Found:
         return next((box for box in self.boxes if box.kind == kind), None)
 
 
-# Boxes whose header is followed by a version and flags. Any box of these types is read so wherever it stands.
-FULL = {"meta", "hdlr", "pitm", "iloc", "iinf", "infe", "iref", "ipma", "ispe", "pixi", "auxC", "altr"}
+# Of the boxes that name items the versions that there are, each with how many bytes an id takes in it, and in iinf the count of items:
+# ISO/IEC 14496-12, 8.11, and 23008-12, 9.3.1. The versions 0 and 1 of infe are for items without a type, and so for no picture.
+IDS = {
+    "pitm": {0: 2, 1: 4}, "iloc": {0: 2, 1: 2, 2: 4}, "iinf": {0: 2, 1: 4}, "infe": {2: 2, 3: 4}, "iref": {0: 2, 1: 4},
+    "ipma": {0: 2, 1: 4},
+}  # fmt: skip
+# Boxes whose header is followed by a version and flags, with the versions that there are. Any box of these types is read so wherever it
+# stands.
+FULL = {kind: list(widths) for kind, widths in IDS.items()}
+FULL |= dict.fromkeys(("meta", "hdlr", "ispe", "pixi", "auxC", "altr"), [0])
 CONTAINERS = {"meta", "iprp", "ipco", "iinf", "iref", "grpl"}
 DEEPEST = 12  # boxes within boxes; files that people make have four
 HEIF_BRANDS = {"mif1", "mif2", "heic", "heix", "heim", "heis", "msf1", "miaf", "avif"}
@@ -166,10 +184,13 @@ class _Reading:
                 return
             box.version, box.flags = head.number(1), head.number(3)
             box.body = head.at
+            if not box.is_known:
+                known = named("version", FULL[box.kind])
+                self.trouble.append(f"{box} has version {box.version}, and readers know {known} alone")
+                if box.kind in IDS:
+                    return  # what is within it, as how wide an id is, goes by its version
         if box.kind in CONTAINERS and not (holder and holder.kind in ("iref", "grpl")):
-            first = box.body
-            if box.kind == "iinf":
-                first += 2 if box.version == 0 else 4  # the count of entries stands before them
+            first = box.body + (box.id_width if box.kind == "iinf" else 0)  # the count of entries stands before them
             box.within = self.boxes(first, box.start + box.there, box, depth + 1)
 
 

@@ -89,8 +89,9 @@ class Contents:
     def value(self, data, item, kind, read):
         """What an item's first property of a type says, or None where it is not there or cannot be read, which is noted then."""
         for position in self.positions(item, kind):
+            box = self.property(position)
             try:
-                return read(body(data, self.property(position)))
+                return read(body(data, box)) if box.is_known else None
             except NotHeif:
                 return None
         return None
@@ -132,6 +133,9 @@ class _Reading:
         self._beyond()
 
     def _try(self, box, read):
+        """Reads a box's body, if its version is known; that it is not is noted where the box is found."""
+        if not box.is_known:
+            return
         try:
             read(box, body(self.data, box))
         except NotHeif as error:
@@ -148,15 +152,15 @@ class _Reading:
         self.made.handler = part.four()
 
     def _primary(self, box, part):
-        self.made.primary = part.number(2 if box.version == 0 else 4)
+        self.made.primary = part.number(box.id_width)
 
     def _count(self, box, part):
-        self.made.counted = part.number(2 if box.version == 0 else 4)
+        self.made.counted = part.number(box.id_width)
 
     def _entry(self, box, part):
-        if box.kind != "infe" or box.version < 2:
-            raise NotHeif(f"{box} is no item entry of version 2 or 3")
-        number = part.number(2 if box.version == 2 else 4)
+        if box.kind != "infe":
+            raise NotHeif(f"{box} is no item entry")
+        number = part.number(box.id_width)
         part.number(2)  # of protection
         item = Item(number, part.four(), bool(box.flags & 1))
         part.text()  # the name, which nobody uses
@@ -181,9 +185,9 @@ class _Reading:
         offset_size, length_size, base_size, index_size = sizes >> 12, sizes >> 8 & 15, sizes >> 4 & 15, sizes & 15
         if iloc.version == 0:
             index_size = 0
-        wide = 4 if iloc.version == 2 else 2
-        for _ in range(part.number(wide)):
-            number = part.number(wide)
+        width = iloc.id_width
+        for _ in range(part.number(width)):
+            number = part.number(width)
             method = part.number(2) & 15 if iloc.version > 0 else IN_FILE
             file = part.number(2)  # which file the data is in: 0 for this one
             base, count = part.number(base_size), part.number(2)
@@ -222,24 +226,24 @@ class _Reading:
     def _property(self, box):
         self.made.position_at[box.start] = len(self.made.properties) + 1
         try:
-            words = properties.words(self.data, box) if not box.is_cut else cut(box)
+            words = cut(box) if box.is_cut else properties.words(self.data, box) if box.is_known else unknown(box)
         except NotHeif as error:
             self.made.trouble.append(str(error))
             words = "damaged: too short, or a string in it has no end"
         self.made.properties.append((box, words))
 
     def _associate(self, ipma, part):
-        width = 2 if ipma.flags & 1 else 1
+        of_id, width = ipma.id_width, 2 if ipma.flags & 1 else 1
         essential = 1 << 8 * width - 1
         for _ in range(part.number(4)):
-            number = part.number(2 if ipma.version == 0 else 4)
+            number = part.number(of_id)
             values = [part.number(width) for _ in range(part.number(1))]
             item = self._listed(number, "ipma")
             if item:
                 item.associations += [(value & essential - 1, bool(value & essential)) for value in values]
 
     def _reference(self, box, part):
-        width = 2 if self.meta.find("iref").version == 0 else 4
+        width = self.meta.find("iref").id_width
         source, count = part.number(width), part.number(2)
         reference = Reference(box.kind, source, [part.number(width) for _ in range(min(count, part.left // width))])
         self.made.reference_at[box.start] = reference
@@ -263,3 +267,8 @@ def _within(box, kind):
 def cut(box):
     """How much of a box is there, in words."""
     return f"cut short: {box.there:,} of {plural(box.size, 'byte')} are there"
+
+
+def unknown(box):
+    """Which version a box has, where that is none that readers know, in words."""
+    return f"version {box.version}, which is not known"

@@ -5,11 +5,12 @@ import dataclasses
 
 from . import fold
 from .boxes import brands_of
-from .items import IN_IDAT, cut
+from .items import IN_IDAT, cut, unknown
 
 MEANINGS = {"iloc": "where each item's payload lies", "ipma": "which properties each item has"}
 REFERS = {"dimg": "made from", "auxl": "auxiliary to", "cdsc": "describes", "thmb": "thumbnail of"}
 OF_DATA = ("mdat", "idat")
+NAMING = ("pitm", "iloc", "iref", "ipma")  # boxes that name items by their ids; iinf's entries are boxes of their own
 
 
 @dataclasses.dataclass
@@ -81,10 +82,12 @@ class Rows:
 
     def _row(self, run):
         first, last = run[0], run[-1]
-        note = self._note(run)
-        if first.is_cut and cut(first) not in note:
-            note = f"{note}, {cut(first)}" if note else cut(first)
-        row = Row(first.start, last.end - first.start, first.kind, note, len(run))
+        notes = [self._note(run) if first.is_known else unknown(first)]
+        if first.kind in NAMING and first.is_known and first.id_width == 4:
+            notes.append("ids of 32 bits")
+        if first.is_cut and cut(first) not in notes[0]:
+            notes.append(cut(first))
+        row = Row(first.start, last.end - first.start, first.kind, ", ".join(filter(None, notes)), len(run))
         row.within = self.of(first.within) if first.within else []
         if self.in_picture and first.kind in OF_DATA:
             row.within += self._payloads(first)

@@ -1,19 +1,22 @@
-//! Turns panel sheets into HEIF files with the safe binding: `sheet-writer [--visible WIDTHxHEIGHT] SHEET FILE ...`
+//! Turns panel sheets into HEIF files with the safe binding:
+//! `sheet-writer [--wide] [--visible WIDTHxHEIGHT] SHEET FILE ...`
 //!
-//! Unlike the program `panel` this takes sheets of any length: the readers' panels are coded without loss and are longer
-//! than a card's. `--visible` gives the panel of the next sheet a visible tile size, which a sheet can't say.
+//! Unlike the program `panel` this takes sheets of any length: the readers' panels are coded without loss and are
+//! longer than a card's. `--wide` asks for the file of the next sheet in the wide form, and `--visible` gives its panel
+//! a visible tile size; a sheet can say neither.
 
 mod sheet;
 
-use kahopiru::VisibleSize;
+use kahopiru::{FileForm, VisibleSize};
 use std::process::ExitCode;
 
-const USAGE: &str = "usage: sheet-writer [--visible WIDTHxHEIGHT] SHEET FILE ...";
+const USAGE: &str = "usage: sheet-writer [--wide] [--visible WIDTHxHEIGHT] SHEET FILE ...";
 
-/// A sheet, the file that it is to become, and the visible tile size.
+/// A sheet, the file that it is to become, its form, and the visible tile size.
 struct Job {
     sheet: String,
     file: String,
+    form: FileForm,
     visible: Option<VisibleSize>,
 }
 
@@ -27,19 +30,23 @@ fn size(words: &str) -> Option<VisibleSize> {
 fn jobs(mut words: impl Iterator<Item = String>) -> Option<Vec<Job>> {
     let mut found = Vec::new();
     while let Some(mut sheet) = words.next() {
-        let mut visible = None;
+        let (mut form, mut visible) = (FileForm::Ordinary, None);
+        if sheet == "--wide" {
+            form = FileForm::Wide;
+            sheet = words.next()?;
+        }
         if sheet == "--visible" {
             visible = Some(size(&words.next()?)?);
             sheet = words.next()?;
         }
-        found.push(Job { sheet, file: words.next()?, visible });
+        found.push(Job { sheet, file: words.next()?, form, visible });
     }
     Some(found).filter(|found| !found.is_empty())
 }
 
-fn convert(Job { sheet, file, visible }: &Job) -> Result<(), String> {
+fn convert(Job { sheet, file, form, visible }: &Job) -> Result<(), String> {
     let bytes = std::fs::read(sheet).map_err(|e| format!("{sheet}: {e}"))?;
-    let written = sheet::written(&bytes, *visible).map_err(|e| format!("{sheet}: {e}"))?;
+    let written = sheet::written(&bytes, *form, *visible).map_err(|e| format!("{sheet}: {e}"))?;
     std::fs::write(file, written).map_err(|e| format!("{file}: {e}"))
 }
 

@@ -1,7 +1,7 @@
 //! Reads a panel sheet, and writes the panel's file.
 
-use kahopiru::{to_vec, BitDepth, Cicp, ColorMetadata, ContentLightLevel, EncodedGainMap, GridDims, Metadata};
-use kahopiru::{MatrixCoefficients, Orientation, Panel, Primaries, Samples, TransferFunction, VisibleSize};
+use kahopiru::{to_vec_in_form, BitDepth, Cicp, ColorMetadata, ContentLightLevel, EncodedGainMap, FileForm, GridDims};
+use kahopiru::{MatrixCoefficients, Metadata, Orientation, Panel, Primaries, Samples, TransferFunction, VisibleSize};
 
 /// Why a sheet is not a panel's: the sheet's own refusals, in words.
 const CUT_SHORT: &str = "the sheet ends before its fields do";
@@ -68,8 +68,8 @@ fn sum(lengths: &[u32]) -> usize {
     lengths.iter().map(|&l| l as usize).sum()
 }
 
-/// The file of the sheet's panel with a visible tile size or without, or why there is none.
-pub fn written(sheet: &[u8], visible: Option<VisibleSize>) -> Result<Vec<u8>, String> {
+/// The file of the sheet's panel in a form, with a visible tile size or without, or why there is none.
+pub fn written(sheet: &[u8], form: FileForm, visible: Option<VisibleSize>) -> Result<Vec<u8>, String> {
     let mut rest = Rest(sheet);
     let map = rest.u16()?;
     let has = |bit: u8| map >> bit & 1 == 1;
@@ -99,7 +99,7 @@ pub fn written(sheet: &[u8], visible: Option<VisibleSize>) -> Result<Vec<u8>, St
     if !rest.0.is_empty() {
         return Err(LEFT_OVER.into());
     }
-    to_vec(&panel).map_err(|refusal| format!("refused {}: {refusal}", refusal.number()))
+    to_vec_in_form(form, &panel).map_err(|refusal| format!("refused {}: {refusal}", refusal.number()))
 }
 
 fn color<'a>(rest: &mut Rest<'a>, has_cicp: bool, has_icc: bool) -> Answer<ColorMetadata<'a>> {
