@@ -1,7 +1,7 @@
 #!/usr/bin/env bash
-# What README.md shows is tried as written: the commands with what they print, the program in C, and the program in Rust. Where there is
-# no python3, heif-convert or pkg-config, the commands that want it are left out and a line says so; with the word `python`, `readers` or
-# `pkg-config` in KAHOPIRU_REQUIRE that is a failure.
+# What README.md shows is tried as written: the commands with what they print, the program in C, and the program in Rust, and both again
+# with the lines that it shows in the place of some of theirs. Where there is no python3, heif-convert or pkg-config, the commands that want
+# it are left out and a line says so; with the word `python`, `readers` or `pkg-config` in KAHOPIRU_REQUIRE that is a failure.
 set -euo pipefail
 cd "$(dirname "$0")/.."
 . tests/lib/left_out
@@ -73,9 +73,10 @@ sed -n 's/^\$ //p' "$room/console" | while read -r command; do
 done >"$room/printed"
 diff "$room/console" "$room/printed" >&2 || fail "the commands print something else than README.md shows"
 block c >"$room/root/hello.c"
-commands=$(block sh)
+commands="cd '$room/root'; $(block sh)"
+commands=${commands//bindings\/archive/true}
 bindings/archive
-prints "cd '$room/root'; ${commands//bindings\/archive/true}" 'accepted, 556 bytes'
+prints "$commands" 'accepted, 556 bytes'
 
 mkdir -p "$room/rust/src"
 block rust >"$room/rust/src/main.rs"
@@ -88,5 +89,22 @@ edition = "2021"
 [dependencies]
 kahopiru = { path = "$home/bindings/rust" }
 END
-prints "CARGO_TARGET_DIR='$home/target/cargo' cargo run --quiet --offline --manifest-path '$room/rust/Cargo.toml'" '556 bytes'
-echo "readme: what it shows prints what it says: $(grep -c "^\$ " "$room/console") commands, a program in C and one in Rust"
+run="CARGO_TARGET_DIR='$home/target/cargo' cargo run --quiet --offline --manifest-path '$room/rust/Cargo.toml'"
+prints "$run" '556 bytes'
+
+# The other lines that it shows: one behind - is in one of the programs, and the one behind + takes its place.
+block diff >"$room/diff"
+programs=("$room/root/hello.c" "$room/rust/src/main.rs")
+sed -n 's/^-//p' "$room/diff" | while IFS= read -r line; do
+    found=$(cat "${programs[@]}" | grep -cxFe "$line" || true)
+    [ "$found" = 1 ] || fail "README.md has another line for '$line', which is in its programs $found times"
+done
+for program in "${programs[@]}"; do
+    awk 'NR == FNR { if (/^-/) old = substr($0, 2); else new[old] = substr($0, 2); next }
+        { print $0 in new ? new[$0] : $0 }' "$room/diff" "$program" >"$room/changed"
+    cp "$room/changed" "$program"
+done
+prints "$commands" 'accepted, 598 bytes'
+prints "$run" '598 bytes'
+echo "readme: what it shows prints what it says: $(grep -c "^\$ " "$room/console") commands, a program in C and one in Rust, and" \
+    "$(grep -c '^+' "$room/diff") other lines in them"
