@@ -53,12 +53,12 @@ wide_panel_p-accepted = refl
 panel_p_stated-fits : Fits panel_p_stated
 panel_p_stated-fits = record { dims = panel_p-dims; visible = tt; light = tt; gain = tt }
 
-panel_p_stated-accepted : refusal wide panel_p_stated ≡ 0
+wide_panel_p_stated-accepted : refusal wide panel_p_stated ≡ 0
 unfolding boxes flatten flat_map file refusal
-panel_p_stated-accepted = refl
+wide_panel_p_stated-accepted = refl
 
 pub stated_wide : file wide panel_p ≡ file wide panel_p_stated
-stated_wide = (same_files wide panel_p panel_p_stated panel_p-fits panel_p_stated-fits wide_panel_p-accepted panel_p_stated-accepted).1 stated_agrees
+stated_wide = (same_files wide panel_p panel_p_stated panel_p-fits panel_p_stated-fits wide_panel_p-accepted wide_panel_p_stated-accepted).1 stated_agrees
 
 -- one sample byte
 pub other-bytes : file ordinary panel_p ≡ file ordinary panel_p_other → ⊥

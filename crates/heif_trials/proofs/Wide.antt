@@ -1,11 +1,13 @@
--- Trials of the wide form with more tiles than a file is computed of: by laws.
+-- Trials of the wide form with too many tiles for their files to be computed: by laws.
 use mathlib.Core.Path.{◌≡◌, refl, sym, ◌∙◌}
 use mathlib.Core.Bool.{true, false, ◌||◌}
-use Prim.Native.Nat.{ℕ, zero, suc, ◌+◌, ◌*◌, ◌^◌, ◌≤◌, ◌<◌}
+use Prim.Native.Nat.{ℕ, ◌+◌, ◌*◌, ◌^◌, ◌≤◌, ◌<◌}
 use native.Mathlib.Omega.{arith}
 use borrow.Author.Tests.{lt-ltb}
 use lib.ListN.{length, replicate}
 use Rattle.std.proofs.lemmas.List.{length-replicate}
+use Rattle.std.proofs.lemmas.List.Folds.{sum_by-replicate}
+use Rattle.octets.proofs.Lists.{sum_is_total}
 use Rattle.octets.specs.Numbers.{total}
 use Rattle.panel.specs.Panel.{Panel}
 use Rattle.panel.specs.Form.{Form, ordinary, wide}
@@ -20,8 +22,7 @@ use Rattle.heif.proofs.File.{length-file}
 use Rattle.heif_trials.specs.Panels.{full_panel}
 
 total_ones : (n : ℕ) → total (replicate n 1) ≡ n
-total_ones zero = refl
-total_ones (suc n) = omega (arith, total_ones n)
+total_ones n = omega (arith, sum_is_total (replicate n 1), sum_by-replicate (λ (k : ℕ). k) n 1)
 
 covers_all : (k : ℕ) → 1 ≤ k → Covers k 63 (k * 63)
 covers_all k h = record { tile = omega arith; full = omega (arith, h); reach = omega arith }
@@ -34,11 +35,11 @@ module _ (cols rows : ℕ) (g : bad_grid rows cols ≡ false) where
   abbrev n : ℕ
   n = rows * cols
 
-  c : 1 ≤ cols
-  c = grind (arith, g)
+  some_cols : 1 ≤ cols
+  some_cols = grind (arith, g)
 
-  r : 1 ≤ rows
-  r = grind (arith, g)
+  some_rows : 1 ≤ rows
+  some_rows = grind (arith, g)
 
   even : Even p
   even = record { counts = refl; sum = total_ones n ∙ sym (length-replicate n 0xAA); alpha_sum = total_ones n ∙ sym (length-replicate n 0xBB) }
@@ -51,13 +52,13 @@ module _ (cols rows : ℕ) (g : bad_grid rows cols ≡ false) where
   full_accepted f last few short =
       accepts f p
       (record {
-        rows = r;
+        rows = some_rows;
         rows_most = grind (arith, g);
-        cols = c;
+        cols = some_cols;
         cols_most = grind (arith, g);
         visible = record { width = record { some = omega arith; inside = omega arith; short = omega arith }; height = record { some = omega arith; inside = omega arith; short = omega arith } };
-        width = covers_all cols c;
-        height = covers_all rows r;
+        width = covers_all cols some_cols;
+        height = covers_all rows some_rows;
         count = tiles;
         alpha_count = length-replicate n 1;
         sum = even.sum;
@@ -70,7 +71,7 @@ module _ (cols rows : ℕ) (g : bad_grid rows cols ≡ false) where
   -- is refused with 4 where its items are too many for the form
   full_refused : (f : Form) → bad_items f (shape p) ≡ true → refusal f p ≡ 4
   full_refused f bad =
-      let cover : bad_cover p.dims (seen p.dims p.visible) ≡ false = rw (covered cols 63 (cols * 63) (covers_all cols c), covered rows 63 (rows * 63) (covers_all rows r)) refl in
+      let cover : bad_cover p.dims (seen p.dims p.visible) ≡ false = rw (covered cols 63 (cols * 63) (covers_all cols some_cols), covered rows 63 (rows * 63) (covers_all rows some_rows)) refl in
       let counts : bad_counts n (length p.tiles.lengths) (length p.alpha.lengths) ≡ false = grind (arith, tiles) in
       let sums : (bad_sum p.tiles || bad_sum p.alpha) ≡ false = grind (arith, even.sum, even.alpha_sum) in
       items_next f p g refl cover counts sums bad
