@@ -42,9 +42,9 @@
  * The archive
  * -----------
  * libkahopiru.a is for x86-64 with the System V calling convention (Linux, the BSDs). It allocates nothing and keeps
- * nothing between calls; any number of threads may call it at once. It wants memcpy, memmove and memset of the C library
- * and nothing else. A freestanding program, which can include this header too, supplies these with the meaning that the
- * C standard gives them, as gcc and clang ask of every such program.
+ * nothing between calls; any number of threads may call it at once. It wants memset of the C library and nothing else.
+ * A freestanding program, which can include this header too, supplies that with the meaning that the C standard gives
+ * it, as gcc and clang ask of every such program.
  *
  * What goes in
  * ------------

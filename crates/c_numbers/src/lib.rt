@@ -76,7 +76,9 @@ fn metadata_from<'a>(c: PanelCodes, exif: &'a [u8]) -> Result<Metadata<'a>, Unkn
     })
 }
 
-// The panel.
+// The panel. It is put where it is called: out of a function of its own the whole answer would be copied, for which the compiler calls
+// memcpy of the C library, and the archive is to want memset alone.
+#[inline(always)]
 #[tactic(auto, unfolding(crate::specs::Codes::panel_from, panel::specs::Of::panel_of))]
 pub fn panel_from<'a>(c: PanelCodes, parts: &LentParts<'a>) -> Result<Panel<'a>, UnknownCode>
     ensures { Stands panel_of (panel_from c (lent_of parts.now)) result }

@@ -7,6 +7,18 @@ ghost use Rattle.std.specs.Prelude.{◌≡◌, ◌+◌, ◌<◌, [], length};
 ghost use Rattle.octets.specs.Numbers.{◌‖◌, be, total, ◌begins_with◌};
 ghost use Rattle.octets.specs.Stores.{Room, Wrote};
 
+// Copies bytes into a room that is as long. By index: `copy_from_slice` would be the C library's memcpy or memmove, which a freestanding
+// program that links the archive need not have, and a call of it for each sample costs more than the few bytes of a short one; and of a
+// list that is written through an adapter of iter_mut, as `zip`, the library says nothing.
+fn copy(room: &mut [u8], src: &[u8])
+    requires { length room.old ≡ length src.now }
+    ensures { room.new ≡ src.now }
+{
+    for (i, &byte) in src.iter().enumerate() {
+        room[i] = byte;
+    }
+}
+
 // A lent buffer, and the position from which it is written on. Each function that writes raises the position behind what it wrote.
 //
 // Its fields are open, so that a caller which gives its buffer into it learns from a field what the buffer holds at the end.
@@ -34,7 +46,7 @@ impl<'a> Output<'a> {
         ensures { Wrote self.old (length src.now) src.now self.new }
     {
         let end = self.at + src.len();
-        self.bytes[self.at..end].copy_from_slice(src);
+        copy(&mut self.bytes[self.at..end], src);
         self.at = end;
     }
 

@@ -6,5 +6,5 @@ use Rattle.octets.proofs.Output.put.Goals as goal
 
 pub returns : goal.returns
 returns c =
-    let e = copied c.args.self.now.bytes.now c.args.self.now.at c.requires c.copy_from_slice.ensures.after in
+    let e = copied c.args.self.now.bytes.now c.args.self.now.at c.requires c.copy.ensures in
     record { bytes = e; size = refl; end = refl; kept = ap length e ∙ length-lay _ _ _; same = refl }
