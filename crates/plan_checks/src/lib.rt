@@ -1,13 +1,13 @@
 // The checks 1, 22, 8 and 2 to 4 of a panel, each of which answers whether it refuses.
 #![tactic(auto)]
 
-ghost use Rattle.std.specs.Prelude.{◌≡◌, ◌||◌, ◌*◌};
+ghost use Rattle.std.specs.Prelude.{◌≡◌, ◌||◌, ◌*◌, eqb};
+ghost use Rattle.octets.specs.Numbers.{total};
 ghost use Rattle.panel.specs.Form.{form_of};
 ghost use Rattle.heif.specs.Refusal.{bad_side, bad_grid, bad_part, bad_visible, seen, bad_axis, bad_cover, bad_counts, bad_id, bad_items};
 ghost use Rattle.heif.specs.Items.{last_id};
 ghost use Rattle.plan_checks.specs.Sums.{bad_samples};
 
-use octets::total;
 use panel::{FileForm, GridDims, Samples, VisibleSize};
 use plan_items::items::Items;
 
@@ -76,11 +76,27 @@ pub fn bad_counts(dims: GridDims, colors: usize, alphas: usize) -> bool
     colors != tiles || alphas != tiles
 }
 
+// Whether lengths sum to a number. It ends at the first length above what is missing, so that no more of a list is read than decides it,
+// and compares before it subtracts, so that nothing wraps.
+fn sums_to(lengths: &[u32], sum: u64) -> bool
+    ensures { result ≡ eqb (total lengths.now) sum }
+{
+    let mut missing = sum;
+    for &n in lengths {
+        let n = n as u64;
+        if n > missing {
+            return false;
+        }
+        missing -= n;
+    }
+    missing == 0
+}
+
 // Whether the lengths of a picture's samples do not sum to the bytes lent.
 fn bad_samples(samples: Samples) -> bool
     ensures { result ≡ bad_samples samples.entry }
 {
-    total(samples.lengths) != samples.bytes.len() as u128
+    !sums_to(samples.lengths, samples.bytes.len() as u64)
 }
 
 // Check 3: lengths do not sum to the bytes lent, of the colour or of alpha.
