@@ -29,7 +29,9 @@ fn write_tile_infes(out: &mut Output, form: FileForm, ids: Ids)
     }
 }
 
-// The entries of a picture: the hidden ones of its tiles, and its grid's.
+// The entries of a picture: the hidden ones of its tiles, and its grid's. It is put where it is called, for the reason that is given at
+// `write_colr_nclx` (write_properties).
+#[inline(always)]
 pub(crate) fn write_picture_infes(out: &mut Output, form: FileForm, picture: PictureIds)
     requires { Room out.old (infe_size (form_of form) * picture.tiles.count + infe_size (form_of form)) }
     ensures { Boxed out.old (infe_size (form_of form) * picture.tiles.count + infe_size (form_of form)) (tile_infes (form_of form) picture.tiles.first.0 picture.tiles.count ‖ infe (form_of form) 0 picture.grid.0 "grid" [] ∷ []) out.new }

@@ -19,7 +19,13 @@ pub fn write_run(out: &mut Output, run: Run, is_essential: bool)
 {
     let mark = when(is_essential, 128) as u8;
     let first = run.first().0;
-    for position in first..first + run.count() {
+    let count = run.count();
+    // Nearly every run has one position, for which the loop would cost more than the byte does.
+    if count == 1 {
+        out.w8(mark + first);
+        return;
+    }
+    for position in first..first + count {
         out.w8(mark + position);
     }
 }

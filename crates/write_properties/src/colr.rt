@@ -13,7 +13,9 @@ use panel::coded::Coded;
 use panel::color::{Cicp, ColorMetadata};
 use panel::when::when;
 
-// By code points.
+// By code points. It is put where it is called, as the compiler does by itself with most writers: were one of them left a function to which
+// the output is lent, the output would be looked up anew behind each byte of the file, as a byte could be a part of it.
+#[inline(always)]
 pub(crate) fn write_colr_nclx(out: &mut Output, enc: Cicp)
     requires { Room out.old nclx_size }
     ensures { Boxed out.old nclx_size (box "colr" (nclx_payload enc) ∷ []) out.new }
