@@ -107,7 +107,17 @@ pub fn tile_span(id: ItemId, color: Samples, alpha: Samples) -> Result<TileSpan,
     Err(TileRefusal::NoTile)
 }
 
-// The payload of the tile that an id names: that very part of the colour bytes or of the alpha bytes; empty where `tile_span` refuses.
+// Why the lookup refuses an id: 2, 3, 4 or 7; or 0, where it does not.
+pub fn tile_refusal(id: ItemId, color: Samples, alpha: Samples) -> u8
+    ensures { result ≡ tile_refusal id.0 (lent color.entry alpha.entry) }
+{
+    match tile_span(id, color, alpha) {
+        Ok(_) => 0,
+        Err(refusal) => refusal.into(),
+    }
+}
+
+// The payload of the tile that an id names: that very part of the colour bytes or of the alpha bytes; empty where `tile_refusal` is not 0.
 #[tactic(auto, unfolding(crate::specs::Lookup::tile_span, crate::specs::Lookup::tile_bytes, crate::specs::Lookup::lent_tiles))]
 pub fn tile<'a>(id: ItemId, color: Samples<'_, 'a>, alpha: Samples<'_, 'a>) -> &'a [u8]
     ensures bytes { result.now ≡ tile_bytes id.0 (lent color.entry alpha.entry) }

@@ -1,15 +1,12 @@
 // The tile lookup, called for every id of two pictures and for each reason to refuse.
 use panel::{ItemId, Samples};
-use plan_tile::{tile, tile_span};
+use plan_tile::{tile, tile_refusal};
 use std::io;
 
 // Prints the number of the refusal, or 0, and the part: a line for an id.
 fn print_tile(rt: &impl Print, id: u16, color: Samples, alpha: Samples) -> io::Result<()> {
-    let number = match tile_span(ItemId(id), color, alpha) {
-        Ok(_) => 0,
-        Err(refusal) => u8::from(refusal),
-    };
-    print!(rt; "{number} ")?;
+    let refusal = tile_refusal(ItemId(id), color, alpha);
+    print!(rt; "{refusal} ")?;
     rt.write_all(tile(ItemId(id), color, alpha))?;
     println!(rt)
 }
