@@ -4,7 +4,8 @@ use mathlib.Core.List.{List, [], ◌∷◌, ◌++◌}
 use Prim.Native.Nat.{ℕ, zero, suc, ◌+◌, ◌*◌, ◌/◌, ◌%◌, ◌^◌, ◌<◌}
 use native.Mathlib.Nat.{mod-eq_of_lt, zero-add, suc-add, le_of_lt, lt_of_le_of_lt, mul-le-mul_left, mul-lt-mul_of_pos_right}
 use native.Mathlib.Omega.{arith}
-use lib.ListN.{length}
+use lib.ListN.{length, drop}
+use lib.Seq.{drop-append_seam}
 use lib.Pow.{mod-pow-add, mod-mod-pow, shr-shr, field, pow_pos, pow-add}
 use Rattle.octets.specs.Numbers.{◌‖◌, be, value}
 use Rattle.octets.proofs.Lists.{cancel}
@@ -45,6 +46,12 @@ be-append (suc j) k n =
     let h : n / 2 ^ (8 * (j + k)) ≡ n / 2 ^ (8 * k) / 2 ^ (8 * j) = ap (λ (i : ℕ). n / 2 ^ i) w ∙ sym (shr-shr n (8 * k) (8 * j)) in
     let t = be-append j k n in
     ap (λ (i : ℕ). be i n) (suc-add j k) ∙ (λ i. h i % 256 ∷ t i)
+
+-- behind the upper j bytes, the lower k
+pub lower : (j k n : ℕ) → drop j (be (j + k) n) ≡ be k n
+lower j k n =
+    let upper = be j (n / 2 ^ (8 * k)) in
+    ap (drop j) (be-append j k n) ∙ ap (λ (i : ℕ). drop i (upper ++ be k n)) (sym (length-be j _)) ∙ drop-append_seam upper (be k n)
 
 -- the lower k bytes do not see what lies above them
 pub be-mod : (j k n : ℕ) → be k (n % 2 ^ (8 * (j + k))) ≡ be k n
