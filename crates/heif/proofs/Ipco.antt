@@ -1,4 +1,5 @@
--- The boxes of slots, one list of them behind another; the depths that they tell; which byte parts ipco is made from; and the length of ipco: how long the boxes of each role are.
+-- The boxes of slots, one list of them behind another; the depths that they tell; which byte parts ipco is made from; and the length of
+-- ipco: how long the boxes of each role are.
 use mathlib.Core.Path.{◌≡◌, refl, sym, ap, ◌∙◌}
 use Rattle.std.specs.Prelude.{Option, None, Some, max, option_map}
 use mathlib.Core.List.{List, [], ◌∷◌, append-nil, append_assoc}

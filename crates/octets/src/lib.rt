@@ -7,9 +7,9 @@ ghost use Rattle.std.specs.Prelude.{◌≡◌, ◌+◌, ◌<◌, [], length};
 ghost use Rattle.octets.specs.Numbers.{◌‖◌, be, total, ◌begins_with◌};
 ghost use Rattle.octets.specs.Stores.{Room, Wrote};
 
-// Copies bytes into a room that is as long. By index: `copy_from_slice` would be the C library's memcpy or memmove, which a freestanding
-// program that links the archive need not have, and a call of it for each sample costs more than the few bytes of a short one; and of a
-// list that is written through an adapter of iter_mut, as `zip`, the library says nothing.
+// Copies bytes into a room that is as long. By index: the library's `copy_from_slice` is memcpy or memmove of the C library, which a
+// freestanding program that links the archive need not have; and of a list that is written through an adapter of iter_mut, as `zip`, the
+// library says nothing.
 fn copy(room: &mut [u8], src: &[u8])
     requires { length room.old ≡ length src.now }
     ensures { room.new ≡ src.now }
